@@ -1,0 +1,12 @@
+pub mod Lists
+pub mod Text
+pub mod Kinds
+pub mod Tables
+pub mod Trust
+pub mod Rules
+pub mod Reading
+pub mod Tests
+pub mod Check
+pub mod Examples
+pub mod Good
+pub mod Laws

@@ -1,2 +1,5 @@
 pub mod Examples
 pub mod Order
+pub mod Bools
+pub mod Lists
+pub mod Search

@@ -5,3 +5,5 @@ pub mod Lists
 pub mod Search
 pub mod Closure
 pub mod Trust
+pub mod Rules
+pub mod Accepted

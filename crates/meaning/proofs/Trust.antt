@@ -4,7 +4,7 @@
 use Prim.Native.Nat.{ℕ, zero, suc, _≤_, _<_}
 use native.Mathlib.Nat.{le-refl, le-trans, le-of-suc-le-suc, not-suc-le-zero}
 use native.Mathlib.Omega.{arith}
-use mathlib.Core.Path.{_≡_, refl, ap}
+use mathlib.Core.Path.{_≡_, refl, subst}
 use mathlib.Core.Logic.{_⊎_, inl, inr}
 use mathlib.Core.List.{List, [], _∷_, List·Memᴰ·head, List·Memᴰ·not-nil, List·Memᴰ·eq-of-singleton}
 use lib.Dec.{T, eqb, eqb→eq, eqb-refl}
@@ -14,7 +14,7 @@ use Rattle.meaning.specs.Tables.{Package, Pair, Class, home, supersOf, o
 use Rattle.meaning.specs.Trust.{Dominated, Trusts, MethodTrusts, Mates, Suspicious, Subtype, OneSlot, Overrides}
 use Rattle.meaning.specs.Tests.{reached, dominated, trusts, methodTrusts, mates, suspicious, subtypeIn, subtype, instanceMethod, oneSlot, overrides}
 use Rattle.meaning.specs.Good.{Good}
-use Rattle.meaning.proofs.Bools.{Decides, decides-as, decides-and, decides-or, decides-not, decides-eq, decides-lt, or-left, or-right, either, decided}
+use Rattle.meaning.proofs.Bools.{Decides, decides-as, decides-and, decides-or, decides-not, decides-eq, decides-lt, or-left, or-right, either, decided, stable}
 use Rattle.meaning.proofs.Lists.{any-sound, any-complete, decides-member}
 use Rattle.meaning.proofs.Closure.{reached-start, reached-closed, reached-least}
 
@@ -114,20 +114,16 @@ module _ (P : Package) where
   subtype-le up {a} Subtype.itself = le-refl a
   subtype-le up {a} {b} (Subtype.above {s = s} m r) = omega (arith, up a s m, subtype-le up r)
 
-  -- a class that is not declared is of the root and has no supertypes
-  not-class : (c : ℕ) → (c < length (P .classes) → ⊥) → classAt P c ≡ noClass
-  not-class c n = List·getD-eq-default (P .classes) noClass (omega arith)
-
-  no-supers : (c : ℕ) → (c < length (P .classes) → ⊥) → supersOf P c ≡ []
+  -- a class with supertypes is declared: one that is not declared has none
+  pub has-supers : {a s : ℕ} → In s (supersOf P a) → a < length (P .classes)
   unfolding supersOf
-  no-supers c n = ap (λ (x : Class). x .supers) (not-class c n)
+  has-supers {a} {s} m = stable (decides-lt a (length (P .classes))) (λ n. List·Memᴰ·not-nil (subst (λ (c : Class). In s (c .supers)) (absent n) m))
+    where
+      absent : (a < length (P .classes) → ⊥) → classAt P a ≡ noClass
+      absent n = List·getD-eq-default (P .classes) noClass (omega arith)
 
   pub good-rising : Good P → Rising P
-  good-rising g a s m = on (decided (decides-lt a (length (P .classes))))
-    where
-      on : Dec (a < length (P .classes)) → s < a
-      on (yes h) = (g .classes a h) .lower s m
-      on (no n) = absurd (List·Memᴰ·not-nil (rw (no-supers a n) at m))
+  good-rising g a s m = (g .classes a (has-supers m)) .lower s m
 
   -- ---- methods
 

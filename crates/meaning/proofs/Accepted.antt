@@ -7,16 +7,16 @@ use mathlib.Core.Path.{_≡_, sym, _∙_, ap}
 use mathlib.Core.Logic.{_⊎_, inl, inr}
 use mathlib.Core.Option.{some}
 use lib.Dec.{T, ltb, ltb→lt}
-use lib.ListN.{length, getD, List·getD-eq-default}
+use lib.ListN.{length, getD}
 use Rattle.meaning.specs.Lists.{In}
-use Rattle.meaning.specs.Tables.{Package, Method, InstanceMethod, noMethod, methodAt, ownerOf, resultOf, paramsOf, fieldClass, fieldType, callerOf, siteOf, opOf, namedBy}
+use Rattle.meaning.specs.Tables.{Package, Method, InstanceMethod, noMethod, ownerOf, resultOf, paramsOf, fieldClass, fieldType, callerOf, siteOf, opOf, namedBy}
 use Rattle.meaning.specs.Trust.{Dominated, Trusts, MethodTrusts, Mates, Subtype, OneSlot, Overrides}
 use Rattle.meaning.specs.Rules.{Rule, Makes, Reads, Writes, Invokes, Granted, Broken10, Broken27, Broken21, Broken30, byDomains, byClasses, byMethods, byEffects, byParameters}
 use Rattle.meaning.specs.Laws.{NoneBroken, rules}
 use Rattle.meaning.specs.Good.{Good}
 use Rattle.meaning.proofs.Bools.{decides-or, decides-lt, decided, stable}
 use Rattle.meaning.proofs.Rules.{decides-sameNumbers, decides-sameResult, decides-granted}
-use Rattle.meaning.proofs.Lists.{getD-in, in-getD}
+use Rattle.meaning.proofs.Lists.{getD-absent, getD-in, in-getD}
 use Rattle.meaning.proofs.Trust.{decides-trusts, decides-methodTrusts, decides-mates, good-rising, subtype-le, has-supers}
 
 pub record Lawful (P : Package) : Type 0 where
@@ -35,11 +35,8 @@ pub record Lawful (P : Package) : Type 0 where
 
 -- an instance method is declared: one that is not declared is static
 declared : (P : Package) (m : ℕ) → InstanceMethod P m → m < length (P .methods)
-declared P m t = stable (decides-lt m (length (P .methods))) (λ n. one-not-zero (ap (λ (x : Method). x .static) (sym (absent n)) ∙ t))
+declared P m t = stable (decides-lt m (length (P .methods))) (λ n. one-not-zero (ap (λ (x : Method). x .static) (sym (getD-absent (P .methods) noMethod n)) ∙ t))
   where
-    absent : (m < length (P .methods) → ⊥) → methodAt P m ≡ noMethod
-    absent n = List·getD-eq-default (P .methods) noMethod (omega arith)
-
     one-not-zero : _≡_ {A = ℕ} 1 0 → ⊥
     one-not-zero e = omega arith
 

@@ -7,3 +7,4 @@ pub mod Closure
 pub mod Trust
 pub mod Rules
 pub mod Accepted
+pub mod Check

@@ -2,13 +2,14 @@
 -- Assumes nothing.
 use Prim.Native.Nat.{ℕ, zero, suc, _<_, zero-le, suc-le-suc}
 use native.Mathlib.Nat.{le-refl, le-step, le-of-suc-le-suc, not-suc-le-zero, eq-or-lt-of-le}
+use native.Mathlib.Omega.{arith}
 use mathlib.Core.Path.{_≡_, refl, sym, _∙_}
 use mathlib.Core.Logic.{_⊎_, inl, inr}
 use mathlib.Core.Bool.{Bool, true, false, _||_, cond}
 use mathlib.Core.Option.{Option, none, some, Option·none-ne-some, Option·some-ne-none}
 use mathlib.Core.List.{List, [], _∷_, List·Memᴰ·head, List·Memᴰ·tail, Memᴰ·cast}
 use lib.Dec.{T}
-use lib.ListN.{length, getD}
+use lib.ListN.{length, getD, List·getD-eq-default}
 use Rattle.meaning.specs.Lists.{In, any, all, member, first, anyBelow}
 use Rattle.meaning.proofs.Bools.{both, and, either, or-left, or-right, Decides, decides-as, decides-eq}
 
@@ -106,6 +107,10 @@ decides-anyBelow {f} d n =
       sound = λ t. let w = anyBelow-sound f n t in (w .0, w .1, (d (w .0)) .sound (w .2));
       complete = λ w. anyBelow-complete f n (w .0) (w .1) ((d (w .0)) .complete (w .2));
     }
+
+-- behind the list's end stands the default
+pub getD-absent : {A : Type 0} (xs : List A) (d : A) {i : ℕ} → (i < length xs → ⊥) → getD xs i d ≡ d
+getD-absent xs d n = List·getD-eq-default xs d (omega arith)
 
 -- what stands at a place in the list is an element of it
 pub getD-in {ℓ} : {A : Type ℓ} (xs : List A) (i : ℕ) (d : A) → i < length xs → In (getD xs i d) xs

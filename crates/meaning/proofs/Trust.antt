@@ -4,18 +4,18 @@
 use Prim.Native.Nat.{ℕ, zero, suc, _≤_, _<_}
 use native.Mathlib.Nat.{le-refl, le-trans, le-of-suc-le-suc, not-suc-le-zero}
 use native.Mathlib.Omega.{arith}
-use mathlib.Core.Path.{_≡_, refl, subst}
+use mathlib.Core.Path.{refl, subst}
 use mathlib.Core.Logic.{_⊎_, inl, inr}
 use mathlib.Core.List.{List, [], _∷_, List·Memᴰ·head, List·Memᴰ·not-nil, List·Memᴰ·eq-of-singleton}
 use lib.Dec.{T, eqb, eqb→eq, eqb-refl}
-use lib.ListN.{length, List·getD-eq-default}
+use lib.ListN.{length}
 use Rattle.meaning.specs.Lists.{In, any}
-use Rattle.meaning.specs.Tables.{Package, Pair, Class, home, supersOf, ownerOf, labelOf, slotOf, noClass, classAt, methodAt}
+use Rattle.meaning.specs.Tables.{Package, Pair, Class, home, supersOf, ownerOf, labelOf, slotOf, noClass, methodAt}
 use Rattle.meaning.specs.Trust.{Dominated, Trusts, MethodTrusts, Mates, Suspicious, Subtype, OneSlot, Overrides}
 use Rattle.meaning.specs.Tests.{reached, dominated, trusts, methodTrusts, mates, suspicious, subtypeIn, subtype, instanceMethod, oneSlot, overrides}
 use Rattle.meaning.specs.Good.{Good}
 use Rattle.meaning.proofs.Bools.{Decides, decides-as, decides-and, decides-or, decides-not, decides-eq, decides-lt, or-left, or-right, either, decided, stable}
-use Rattle.meaning.proofs.Lists.{any-sound, any-complete, decides-member}
+use Rattle.meaning.proofs.Lists.{any-sound, any-complete, decides-member, getD-absent}
 use Rattle.meaning.proofs.Closure.{reached-start, reached-closed, reached-least}
 
 -- supertypes have lower numbers
@@ -117,10 +117,7 @@ module _ (P : Package) where
   -- a class with supertypes is declared: one that is not declared has none
   pub has-supers : {a s : ℕ} → In s (supersOf P a) → a < length (P .classes)
   unfolding supersOf
-  has-supers {a} {s} m = stable (decides-lt a (length (P .classes))) (λ n. List·Memᴰ·not-nil (subst (λ (c : Class). In s (c .supers)) (absent n) m))
-    where
-      absent : (a < length (P .classes) → ⊥) → classAt P a ≡ noClass
-      absent n = List·getD-eq-default (P .classes) noClass (omega arith)
+  has-supers {a} {s} m = stable (decides-lt a (length (P .classes))) (λ n. List·Memᴰ·not-nil (subst (λ (c : Class). In s (c .supers)) (getD-absent (P .classes) noClass n) m))
 
   pub good-rising : Good P → Rising P
   good-rising g a s m = (g .classes a (has-supers m)) .lower s m

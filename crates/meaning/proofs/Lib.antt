@@ -8,3 +8,5 @@ pub mod Trust
 pub mod Rules
 pub mod Accepted
 pub mod Check
+pub mod ReadGood
+pub mod ReadLists

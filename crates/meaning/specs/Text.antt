@@ -1,7 +1,7 @@
 -- Lines of a text (01, "Package text", first sentence; "Run text": the same line rule).
 -- "Each line: digits 0-9 A-F, an even number, at least two, then LF. Lines count from 1 in each text."
 -- Assumes nothing.
-use Prim.Native.Nat.{ℕ, _+_, _-_, _*_}
+use Prim.Native.Nat.{ℕ, zero, suc, _+_, _-_, _*_}
 use mathlib.Core.Bool.{Bool, true, false, _&&_, _||_, cond}
 use mathlib.Core.Option.{Option, none, some}
 use mathlib.Core.List.{List, [], _∷_}
@@ -25,6 +25,12 @@ addChar false c ls = onto c ls
 unfoldable pub linesOf : List ℕ → List Line
 linesOf [] = []
 linesOf (c ∷ s) = addChar (eqb c 10) c (linesOf s)
+
+-- the text up to its n-th LF and with it: its first n lines
+unfoldable pub firstLines : ℕ → List ℕ → List ℕ
+firstLines n [] = []
+firstLines zero (c ∷ s) = []
+firstLines (suc n) (c ∷ s) = c ∷ firstLines (cond (eqb c 10) n (suc n)) s
 
 -- 0-9 are 48 to 57, A-F are 65 to 70
 unfoldable pub isDigit : ℕ → Bool

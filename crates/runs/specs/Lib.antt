@@ -1,0 +1,9 @@
+pub mod Machine
+pub mod Steps
+pub mod Run
+pub mod Script
+pub mod Admitted
+pub mod Holdings
+pub mod Programs
+pub mod Reach
+pub mod Examples

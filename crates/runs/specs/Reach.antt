@@ -1,0 +1,53 @@
+-- Reach (01, "Reach"; 003, Fig. 7 as 01 mends it), and demand 3: what a run can change about who reaches what (003, Theorem 4).
+-- Assumes nothing.
+use Prim.Native.Nat.{ℕ, _+_, _*_, _≤_, _<_}
+use mathlib.Core.Path.{_≡_}
+use mathlib.Core.List.{List}
+use lib.ListN.{take, drop}
+use Rattle.meaning.specs.Tables.{Package, home, targetOf, potencyOf}
+use Rattle.meaning.specs.Trust.{Dominated, Subtype}
+use Rattle.meaning.specs.Reading.{Answer, answer, isRead, readText}
+use Rattle.meaning.specs.Good.{Good}
+use Rattle.meaning.specs.Laws.{rules, NoneBroken}
+use Rattle.runs.specs.Machine.{State}
+use Rattle.runs.specs.Run.{Placed, Outcome, runFrom}
+use Rattle.runs.specs.Script.{Script, isScript, readScript}
+use Rattle.runs.specs.Admitted.{Admitted}
+use Rattle.runs.specs.Holdings.{Holds, holding, lineOf}
+use Rattle.runs.specs.Programs.{Ran, runOf}
+
+-- "A domain reaches r at C when it holds r with a label that is a subtype of C"
+pub record Reaches (P : Package) (s : State) (d r c : ℕ) : Type 0 where
+  pub label : ℕ
+  pub held : Holds P s d r label
+  pub below : Subtype P label c
+
+-- how d may come to reach r at c in a run of the entry method m from s: it did at the start; c is no capability for d; or it was granted
+pub data Allowed (P : Package) (s : State) (m d r c : ℕ) : Type 0 where
+  atStart : Reaches P s d r c → Allowed P s m d r c
+  dominates : Dominated P (home P c) d → Allowed P s m d r c
+  granted : Dominated P (home P c) (potencyOf P m) → Dominated P d (targetOf P m) → Allowed P s m d r c
+
+-- the package is read and no rule is broken
+pub record Accepted (P : Package) : Type 1 where
+  pub good : Good P
+  pub unbroken : NoneBroken rules P
+
+-- after the steps ks from s
+abbrev pub after : Package → State → List Placed → State
+after P s ks = (runFrom P s 0 ks) .state
+
+-- demand 3: for every accepted package, every admitted start, every list of steps of any length
+abbrev pub Demand3 : Type 1
+Demand3 =
+    (P : Package) → Accepted P
+    → (s : State) → Admitted P s
+    → (ks : List Placed) (d r c : ℕ) → Reaches P (after P s ks) d r c → Allowed P s (s .method) d r c
+
+-- the same of a call's own arguments: of every line `30 dd rr cc` that the buffer then holds at its start and every supertype of cc
+abbrev pub RunConfined : List ℕ → List ℕ → List ℕ → Type 0
+RunConfined p t b =
+    (P : Package) → readText p ≡ isRead P
+    → (S : Script) → readScript P t ≡ isScript S
+    → (i d r c : ℕ) → d < 256 → r < 256 → c < 256 → 9 * i + 9 ≤ (runOf p t b) .length → take 9 (drop (9 * i) ((runOf p t b) .buffer)) ≡ lineOf (holding d r c)
+    → (c′ : ℕ) → Subtype P c c′ → Allowed P (S .start) (S .start .method) d r c′

@@ -11,3 +11,4 @@ pub mod Accepted
 pub mod Check
 pub mod ReadGood
 pub mod ReadLists
+pub mod Reading

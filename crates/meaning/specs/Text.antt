@@ -6,7 +6,7 @@ use mathlib.Core.Bool.{Bool, true, false, _&&_, _||_, cond}
 use mathlib.Core.Option.{Option, none, some}
 use mathlib.Core.List.{List, [], _∷_}
 use lib.Dec.{eqb, leb}
-use lib.ListN.{getD}
+use lib.ListN.{drop, getD}
 
 -- what stands before an LF, and whether the LF is there: the last line may lack it
 pub record Line : Type 0 where
@@ -61,6 +61,15 @@ notEmpty (some (b ∷ f)) = some (b ∷ f)
 unfoldable pub frameOf : Line → Option (List ℕ)
 unfolding decode
 frameOf l = elim (l .ended) [ true ↦ notEmpty (decode (l .text)) | false ↦ none ]
+
+-- the frame of the line that begins at a place of the text; none where it breaks the line rule, and where no line begins
+abbrev pub firstFrame : List Line → Option (List ℕ)
+firstFrame [] = none
+firstFrame (l ∷ ls) = frameOf l
+
+unfoldable pub frameAt : List ℕ → ℕ → Option (List ℕ)
+unfolding linesOf frameOf
+frameAt s at = firstFrame (linesOf (drop at s))
 
 -- the byte of a frame at a place, counted from 0
 abbrev pub byte : List ℕ → ℕ → ℕ

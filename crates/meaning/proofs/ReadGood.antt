@@ -18,7 +18,9 @@ use Rattle.meaning.specs.Kinds.{rowOf, lengthOf, fits, follows}
 use Rattle.meaning.specs.Tables.{Package, Pair, Class, Field, Method, Effect, noClass, noField, noMethod, noEffect, classAt, fieldAt, methodAt, effectAt, home, supersOf, ownerOf, labelOf, slotOf, paramsOf, fieldClass, fieldType, callerOf, opOf, namedBy}
 use Rattle.meaning.specs.Reading.{answer, Took, takes, refuses, need, Reader, isDomain, isClass, isType, isMethod, isField, isMethodOf, isNamed, isSlot, isResult, takeHeader, takePair, takeClass, takeField, takeMethod, takeEffect, takeEnd, takeLater, takeFrame, takeIf, takeLine, Reading, isRead, isRefused, readNext, readLines, noReader, readText}
 use Rattle.meaning.specs.Good.{Good, GoodPair, GoodClass, GoodField, GoodMethod, GoodEffect}
-use Rattle.meaning.proofs.ReadLists.{either, all-sound, cond-elim, Weaker, weaker-cond, Longer, same, more, longer, in-limit, still-below, still-at, each, each-in}
+use Rattle.meaning.proofs.Bools.{either}
+use Rattle.meaning.proofs.Lists.{all-sound}
+use Rattle.meaning.proofs.ReadLists.{cond-elim, Weaker, weaker-cond, Longer, same, more, longer, in-limit, still-below, still-at, each, each-in}
 
 -- ---- an element that is fine among the tables P, and is to stand at a place
 

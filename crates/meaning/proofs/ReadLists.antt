@@ -5,29 +5,13 @@ use native.Mathlib.Nat.{le-of-suc-le-suc, eq-or-lt-of-le}
 use native.Mathlib.Omega.{arith}
 use mathlib.Core.Path.{_≡_, refl, subst}
 use mathlib.Core.Logic.{_⊎_, inl, inr}
-use mathlib.Core.Bool.{Bool, true, false, _&&_, _||_, cond}
-use mathlib.Core.List.{List, [], _∷_, _++_, List·Memᴰ·head, List·Memᴰ·tail, List·Memᴰ·append-cases, List·Memᴰ·eq-of-singleton}
+use mathlib.Core.Bool.{Bool, true, false, _&&_, cond}
+use mathlib.Core.List.{List, [], _∷_, _++_, List·Memᴰ·append-cases, List·Memᴰ·eq-of-singleton}
 use lib.Dec.{T, ltb, ltb→lt, lt→ltb}
 use lib.ListN.{length, getD, length-append, List·getD-append}
 use lib.Seq.{getD-append-seam}
-use Rattle.meaning.specs.Lists.{In, all}
-
-pub both : (a b : Bool) → T (a && b) → T a × T b
-both true b t = (tt, t)
-both false b t = absurd t
-
-pub and : (a b : Bool) → T a → T b → T (a && b)
-and true b t u = u
-and false b t u = absurd t
-
-pub either : (a b : Bool) → T (a || b) → T a ⊎ T b
-either true b t = inl tt
-either false b t = inr t
-
-pub all-sound : {A : Type 0} (f : A → Bool) {x : A} {xs : List A} → T (all f xs) → In x xs → T (f x)
-unfolding all
-all-sound f t (List·Memᴰ·head {x = y} {xs = ys} e) = rw e (both (f y) (all f ys) t .0)
-all-sound f t (List·Memᴰ·tail {x = y} {xs = ys} m) = all-sound f (both (f y) (all f ys) t .1) m
+use Rattle.meaning.specs.Lists.{In}
+use Rattle.meaning.proofs.Bools.{both, and}
 
 -- by a test's two answers
 pub cond-elim {ℓ} : {A : Type ℓ} (Q : A → Type 0) (b : Bool) {x y : A} → (T b → Q x) → Q y → Q (cond b x y)

@@ -12,7 +12,7 @@ use lib.Dec.{eqb}
 use lib.ListN.{length, drop, getD, length-append, length-drop, drop-of-length-le}
 use lib.Seq.{drop-cons, drop-drop}
 use borrow.Author.Tests.{eq-eqb, ne-eqb}
-use Rattle.meaning.specs.Text.{Line, onto, addChar, linesOf, isDigit, digit, before, decode, notEmpty, frameOf, firstFrame, frameAt}
+use Rattle.meaning.specs.Text.{Line, onto, addChar, linesOf, isDigit, digit, before, decode, notEmpty, frameOf, firstFrame, frameAt, behind}
 use Rattle.meaning.specs.Reading.{answer, Reader, takeFrame, takeIf, isRefused, readNext, readEnd, readLines}
 
 -- ---- the first line of a text, character by character
@@ -210,10 +210,6 @@ lines-rest (c ∷ t) = on (eqb c 10) (linesOf t) refl (lines-rest t)
     on true ls p r = λ _. (p, omega arith)
     on false [] p r = λ q. absurd (false≢true q)
     on false (l ∷ ls) p r = λ q. let w = r q in (w .0, omega (arith, w .1))
-
--- the place behind a line that begins at a place and has the frame f
-abbrev pub behind : ℕ → List ℕ → ℕ
-behind at f = at + 2 * length f + 1
 
 -- the text goes on with a line of frame f, and then with what stands behind it
 pub record Framed (s : List ℕ) (at : ℕ) (f : List ℕ) : Type 0 where

@@ -6,7 +6,7 @@ use mathlib.Core.Bool.{Bool, true, false, _&&_, _||_, cond}
 use mathlib.Core.Option.{Option, none, some}
 use mathlib.Core.List.{List, [], _∷_}
 use lib.Dec.{eqb, leb}
-use lib.ListN.{drop, getD}
+use lib.ListN.{length, drop, getD}
 
 -- what stands before an LF, and whether the LF is there: the last line may lack it
 pub record Line : Type 0 where
@@ -70,6 +70,10 @@ firstFrame (l ∷ ls) = frameOf l
 unfoldable pub frameAt : List ℕ → ℕ → Option (List ℕ)
 unfolding linesOf frameOf
 frameAt s at = firstFrame (linesOf (drop at s))
+
+-- the place behind that line and its LF
+abbrev pub behind : ℕ → List ℕ → ℕ
+behind at f = at + 2 * length f + 1
 
 -- the byte of a frame at a place, counted from 0
 abbrev pub byte : List ℕ → ℕ → ℕ

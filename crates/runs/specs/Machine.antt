@@ -248,8 +248,17 @@ Permitted P s (invokemethod n v r rs) = Permits P (s .method) 7 n
 Permitted P s (return r) = Unit {0}
 
 -- the step is a return without a saved frame
-pub data Stranded (s : State) : Step → Type 0 where
-  stranded : {r : ℕ} → s .saved ≡ [] → Stranded s (return r)
+abbrev pub Stranded : State → Step → Type 0
+Stranded s (widen r b) = ⊥
+Stranded s (new r b) = ⊥
+Stranded s (checkcast r b) = ⊥
+Stranded s (getstatic f q) = ⊥
+Stranded s (putstatic f q) = ⊥
+Stranded s (getfield f p q) = ⊥
+Stranded s (putfield f p q) = ⊥
+Stranded s (invokestatic n rs) = ⊥
+Stranded s (invokemethod n v r rs) = ⊥
+Stranded s (return r) = s .saved ≡ []
 
 -- 64: return without a saved frame; 61: no effect of the running method permits it; 62: another premise of the step is missing; 63: no room
 pub data FirstMissing (P : Package) (s : State) (k : Step) : ℕ → Type 0 where

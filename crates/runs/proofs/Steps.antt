@@ -155,6 +155,13 @@ data Computes (P : Package) (s : State) (k : Step) : Took State → Type 0 where
   tests : {e a r : Bool} → (Stranded s k → ⊥) → Decides e (Permitted P s k) → Decides a (Asks P s k) → Decides r (Room P s k) → Computes P s k (need e 61 (need a 62 (need r 63 (takes (next P s k)))))
   strands : Stranded s k → Permitted P s k → Computes P s k (refuses 64)
 
+-- what lacks something does not go
+pub goes-lacks : {P : Package} {s t : State} {k : Step} {x : ℕ} → Goes P s k t → FirstMissing P s k x → ⊥
+goes-lacks {k = k} g (FirstMissing.frame h) = moves-not-stranded k (g .moves) h
+goes-lacks g (FirstMissing.effect n) = n (moves-permitted (g .moves))
+goes-lacks {t = t} g (FirstMissing.premise h e n) = n t (g .moves)
+goes-lacks g (FirstMissing.room m n) = n (g .room)
+
 module _ (P : Package) (s : State) (k : Step) where
   judged : {o : Took State} → Computes P s k o → Judged P s k o
   judged (Computes.tests {e = e} {a = a} {r = r} h de da dr) = on e a r de da dr

@@ -45,6 +45,9 @@ pub record Decides (b : Bool) (A : Type 0) : Type 0 where
   pub sound : T b → A
   pub complete : A → T b
 
+pub decides-test : (b : Bool) → Decides b (T b)
+decides-test b = record { sound = λ t. t; complete = λ t. t }
+
 pub decides-eq : (m n : ℕ) → Decides (eqb m n) (m ≡ n)
 decides-eq m n = record { sound = eqb→eq m n; complete = λ e. rw e (eqb-refl n) }
 

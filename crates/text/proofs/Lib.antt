@@ -1,0 +1,6 @@
+pub mod Cuts
+pub mod Digits
+pub mod Fitting
+pub mod Packed
+pub mod Rows
+pub mod Scanning

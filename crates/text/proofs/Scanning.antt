@@ -1,0 +1,74 @@
+-- The scanner's loop: what it has in hand after some turns, and its answers.
+-- Assumes nothing.
+use Prim.Native.Nat.{ℕ, _+_, _*_, _≤_, _<_}
+use native.Mathlib.Omega.{arith}
+use mathlib.Core.Path.{_≡_, refl, sym, ap, ap₂, _∙_}
+use mathlib.Core.Logic.{_⊎_, inl, inr}
+use mathlib.Core.Bool.{true}
+use mathlib.Core.Option.{none, some}
+use mathlib.Core.List.{List, [], _∷_, _++_}
+use lib.ListN.{length, getD, set, length-append}
+use Rattle.meaning.specs.Text.{isDigit, notEmpty, frameAt, behind}
+use Rattle.meaning.proofs.Reading.{spelt, Going, go-start, go-on, go-end}
+use Rattle.text.specs.declared.Cut.{Cut}
+use Rattle.text.specs.Hex.{hexOf}
+use Rattle.text.specs.Scan.{firstBytes, noCut, cutBy, cutAt}
+use Rattle.text.proofs.Digits.{hex-yes, hex-is}
+use Rattle.text.proofs.Packed.{first-more, first-full}
+
+-- the characters from the place `at` up to i spell the bytes f, of which b and n are the first ones and the count
+pub record Scanning (s : List ℕ) (at : ℕ) (b : List ℕ) (n i : ℕ) : Type 0 where
+  pub f : List ℕ
+  pub first : b ≡ firstBytes 16 f
+  pub count : n ≡ length f
+  pub going : Going s at i f
+
+pub scan-start : {s : List ℕ} {at : ℕ} → Scanning s at (firstBytes 16 []) 0 at
+scan-start = record { f = []; first = refl; count = refl; going = go-start }
+
+module _ {s : List ℕ} {at : ℕ} {b : List ℕ} {n i : ℕ} (g : Scanning s at b n i) where
+  -- a byte more, stored where there is room
+  pub scan-on : {x y : ℕ} {b′ : List ℕ} → i + 1 < length s → x ≡ hexOf (getD s i 0) → x < 16 → y ≡ hexOf (getD s (i + 1) 0) → y < 16
+      → ((n < 16) × (b′ ≡ set b n (x * 16 + y))) ⊎ ((16 ≤ n) × (b′ ≡ b)) → Scanning s at b′ (n + 1) (i + 2)
+  scan-on {x} {y} {b′} h p l q m w =
+      record {
+        f = g .f ++ (spelt (getD s i 0) (getD s (i + 1) 0) ∷ []);
+        first = on w;
+        count = simp length-append (omega (arith, g .count));
+        going = go-on (g .going) h high low;
+      }
+    where
+      high : isDigit (getD s i 0) ≡ true
+      high = hex-yes (getD s i 0) (omega arith)
+
+      low : isDigit (getD s (i + 1) 0) ≡ true
+      low = hex-yes (getD s (i + 1) 0) (omega arith)
+
+      byte-is : x * 16 + y ≡ spelt (getD s i 0) (getD s (i + 1) 0)
+      byte-is = ap₂ (λ (u v : ℕ). u * 16 + v) (p ∙ hex-is (getD s i 0) high) (q ∙ hex-is (getD s (i + 1) 0) low)
+
+      on : ((n < 16) × (b′ ≡ set b n (x * 16 + y))) ⊎ ((16 ≤ n) × (b′ ≡ b)) → b′ ≡ firstBytes 16 (g .f ++ (spelt (getD s i 0) (getD s (i + 1) 0) ∷ []))
+      on (inl w) = w .1 ∙ rw (g .first, g .count, byte-is) (first-more 16 (g .f) (spelt (getD s i 0) (getD s (i + 1) 0)))
+      on (inr w) = w .1 ∙ g .first ∙ first-full 16 (g .f) (spelt (getD s i 0) (getD s (i + 1) 0)) (omega (arith, g .count, w .0))
+
+  -- an LF behind some digits
+  pub cut-got : i < length s → getD s i 0 ≡ 10 → (n ≡ 0 → ⊥) → record { ok = true; frame = record { b = b; n = n }; next = i + 1 } ≡ cutAt s at
+  unfolding cutAt
+  cut-got h e z = on (g .f) (g .first) (g .count) (omega (arith, g .going .place)) ∙ ap (cutBy at) (sym (go-end (g .going) h e))
+    where
+      on : (f : List ℕ) → b ≡ firstBytes 16 f → n ≡ length f → i + 1 ≡ behind at f → record { ok = true; frame = record { b = b; n = n }; next = i + 1 } ≡ cutBy at (notEmpty (some f))
+      on [] p q r = absurd (z q)
+      on (x ∷ f) p q r = λ j. record { ok = true; frame = record { b = p j; n = q j }; next = r j }
+
+  -- a line that breaks the rule
+  pub cut-bad : {r : Cut} → r ≡ noCut at → frameAt s at ≡ none → r ≡ cutAt s at
+  unfolding cutAt
+  cut-bad e h = e ∙ ap (cutBy at) (sym h)
+
+  -- as one with an LF behind no digits
+  pub no-digits : i < length s → getD s i 0 ≡ 10 → n ≡ 0 → frameAt s at ≡ none
+  no-digits h e z = go-end (g .going) h e ∙ on (g .f) (g .count)
+    where
+      on : (f : List ℕ) → n ≡ length f → notEmpty (some f) ≡ none
+      on [] q = refl
+      on (x ∷ f) q = absurd (omega arith)

@@ -1,8 +1,8 @@
 -- The scanner's loop: what it has in hand after some turns, and its answers.
 -- Assumes nothing.
-use Prim.Native.Nat.{ℕ, _+_, _*_, _≤_, _<_}
+use Prim.Native.Nat.{ℕ, _+_, _≤_, _<_}
 use native.Mathlib.Omega.{arith}
-use mathlib.Core.Path.{_≡_, refl, sym, ap, ap₂, _∙_}
+use mathlib.Core.Path.{_≡_, refl, sym, ap, _∙_}
 use mathlib.Core.Logic.{_⊎_, inl, inr}
 use mathlib.Core.Bool.{true}
 use mathlib.Core.Option.{none, some}
@@ -11,9 +11,7 @@ use lib.ListN.{length, getD, set, length-append}
 use Rattle.meaning.specs.Text.{isDigit, notEmpty, frameAt, behind}
 use Rattle.meaning.proofs.Reading.{spelt, Going, go-start, go-on, go-end}
 use Rattle.text.specs.declared.Cut.{Cut}
-use Rattle.text.specs.Hex.{hexOf}
 use Rattle.text.specs.Scan.{firstBytes, noCut, cutBy, cutAt}
-use Rattle.text.proofs.Digits.{hex-yes, hex-is}
 use Rattle.text.proofs.Packed.{first-more, first-full}
 
 -- the characters from the place `at` up to i spell the bytes f, of which b and n are the first ones and the count
@@ -28,27 +26,18 @@ scan-start = record { f = []; first = refl; count = refl; going = go-start }
 
 module _ {s : List ℕ} {at : ℕ} {b : List ℕ} {n i : ℕ} (g : Scanning s at b n i) where
   -- a byte more, stored where there is room
-  pub scan-on : {x y : ℕ} {b′ : List ℕ} → i + 1 < length s → x ≡ hexOf (getD s i 0) → x < 16 → y ≡ hexOf (getD s (i + 1) 0) → y < 16
-      → ((n < 16) × (b′ ≡ set b n (x * 16 + y))) ⊎ ((16 ≤ n) × (b′ ≡ b)) → Scanning s at b′ (n + 1) (i + 2)
-  scan-on {x} {y} {b′} h p l q m w =
+  pub scan-on : {v : ℕ} {b′ : List ℕ} → i + 1 < length s → isDigit (getD s i 0) ≡ true → isDigit (getD s (i + 1) 0) ≡ true → v ≡ spelt (getD s i 0) (getD s (i + 1) 0)
+      → ((n < 16) × (b′ ≡ set b n v)) ⊎ ((16 ≤ n) × (b′ ≡ b)) → Scanning s at b′ (n + 1) (i + 2)
+  scan-on {v} {b′} h p q e w =
       record {
         f = g .f ++ (spelt (getD s i 0) (getD s (i + 1) 0) ∷ []);
         first = on w;
         count = simp length-append (omega (arith, g .count));
-        going = go-on (g .going) h high low;
+        going = go-on (g .going) h p q;
       }
     where
-      high : isDigit (getD s i 0) ≡ true
-      high = hex-yes (getD s i 0) (omega arith)
-
-      low : isDigit (getD s (i + 1) 0) ≡ true
-      low = hex-yes (getD s (i + 1) 0) (omega arith)
-
-      byte-is : x * 16 + y ≡ spelt (getD s i 0) (getD s (i + 1) 0)
-      byte-is = ap₂ (λ (u v : ℕ). u * 16 + v) (p ∙ hex-is (getD s i 0) high) (q ∙ hex-is (getD s (i + 1) 0) low)
-
-      on : ((n < 16) × (b′ ≡ set b n (x * 16 + y))) ⊎ ((16 ≤ n) × (b′ ≡ b)) → b′ ≡ firstBytes 16 (g .f ++ (spelt (getD s i 0) (getD s (i + 1) 0) ∷ []))
-      on (inl w) = w .1 ∙ rw (g .first, g .count, byte-is) (first-more 16 (g .f) (spelt (getD s i 0) (getD s (i + 1) 0)))
+      on : ((n < 16) × (b′ ≡ set b n v)) ⊎ ((16 ≤ n) × (b′ ≡ b)) → b′ ≡ firstBytes 16 (g .f ++ (spelt (getD s i 0) (getD s (i + 1) 0) ∷ []))
+      on (inl w) = w .1 ∙ rw (g .first, g .count, e) (first-more 16 (g .f) (spelt (getD s i 0) (getD s (i + 1) 0)))
       on (inr w) = w .1 ∙ g .first ∙ first-full 16 (g .f) (spelt (getD s i 0) (getD s (i + 1) 0)) (omega (arith, g .count, w .0))
 
   -- an LF behind some digits

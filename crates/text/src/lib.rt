@@ -1,10 +1,12 @@
 // Lines and frames of both texts: a line cut off a text, the kinds of frames, and bytes as two digits.
 ghost use mathlib.Core.Path.{_≡_};
-ghost use Prim.Native.Nat.{_+_, _/_, _%_, _<_, _≤_};
+ghost use Prim.Native.Nat.{_+_, _/_, _%_, _<_};
 ghost use lib.ListN.{length, set};
+ghost use mathlib.Core.Bool.{true};
+ghost use Rattle.meaning.specs.Text.{isDigit, digit};
 ghost use Rattle.meaning.specs.Kinds.{rowOf, follows};
 ghost use Rattle.text.specs.Fits.{kindIn, fitsFrame};
-ghost use Rattle.text.specs.Hex.{hexOf, hexDigit};
+ghost use Rattle.text.specs.Hex.{hexDigit};
 ghost use Rattle.text.specs.Scan.{noCut, cutAt};
 use crate::kinds::KINDS;
 use crate::kinds::Kind;
@@ -75,23 +77,26 @@ pub fn follows(o: u8, e: u8, b: u8, s: u8) -> bool
     b < e
 }
 
-// A digit's number; 16 for what is no digit.
-fn hex(c: u8) -> u8
-    ensures { λ r. ⌜ (r ≡ hexOf c) × (r ≤ 16) ⌝ }
+fn is_digit(c: u8) -> bool
+    ensures { λ r. ⌜ r ≡ isDigit c ⌝ }
 {
-    if c < 48 {
-        return 16;
+    if c <= 57 {
+        return 48 <= c;
     }
+    if c <= 70 {
+        return 65 <= c;
+    }
+    false
+}
+
+fn digit(c: u8) -> u8
+    requires { ⌜ isDigit c ≡ true ⌝ }
+    ensures { λ r. ⌜ (r ≡ digit c) × (r < 16) ⌝ }
+{
     if c <= 57 {
         return c - 48;
     }
-    if c < 65 {
-        return 16;
-    }
-    if c <= 70 {
-        return c - 55;
-    }
-    16
+    c - 55
 }
 
 fn no_cut(at: usize) -> Cut
@@ -126,16 +131,16 @@ pub fn scan(s: &[u8], at: usize) -> Cut
         if s.len() <= i + 1 {
             return no_cut(at);
         }
-        let x = hex(c);
-        let y = hex(s[i + 1]);
-        if 16 <= x {
+        let d = s[i + 1];
+        if !is_digit(c) {
             return no_cut(at);
         }
-        if 16 <= y {
+        if !is_digit(d) {
             return no_cut(at);
         }
+        let v = digit(c) * 16 + digit(d);
         if n < 16 {
-            b[n] = x * 16 + y;
+            b[n] = v;
         }
         n += 1;
         i += 2;

@@ -1,14 +1,15 @@
 -- `text::scan` meets its contract. The loop's invariant: the characters passed spell bytes, of which `b` and `n` are the first ones and the
 -- count; each way out is one of the turns of `meaning`'s laws. The measure is what is left of the text.
 -- Assumes nothing.
-use Prim.Native.Nat.{_-_}
+use Prim.Native.Nat.{ℕ, _+_, _*_, _-_}
 use native.Mathlib.Omega.{arith}
+use mathlib.Core.Path.{sym, ap₂, _∙_}
 use mathlib.Core.Logic.{inl, inr, ⊎-elim}
 use lib.ListN.{length}
 use borrow.Author.Needs.{needs}
+use borrow.Author.Tests.{not-true, not-false}
 use Rattle.meaning.proofs.Reading.{go-high, go-low, go-short, go-none}
 use Rattle.text.specs.Scan.{firstBytes}
-use Rattle.text.proofs.Digits.{hex-no}
 use Rattle.text.proofs.Scanning.{Scanning, scan-start, scan-on, cut-got, cut-bad, no-digits}
 use Rattle.text.proofs.scan.Statement.{statement}
 use Rattle.text.proofs.scan.Tie as tie
@@ -47,41 +48,47 @@ no-cut-requires-2 c κs = search needs
 returns-3 : tie.Need-returns-3 Inv-loop μ-loop
 returns-3 c = let g = c .before .before .before .before .before .loop .inv in cut-bad g (c .no-cut2 .ensures) (go-short (g .going) (c .before .before .before .before .loop-test .taken) (c .before .if3 .taken) (c .before .before .if1 .left))
 
-hex-requires : tie.Need-hex-requires Inv-loop μ-loop
-hex-requires c κs = search needs
+add-d : tie.Need-add-d Inv-loop μ-loop
+add-d c = search needs
 
-add-hex : tie.Need-add-hex Inv-loop μ-loop
-add-hex c = search needs
+shared-slice-read-d : tie.Need-shared-slice-read-d Inv-loop μ-loop
+shared-slice-read-d c = search needs
 
-shared-slice-read-hex : tie.Need-shared-slice-read-hex Inv-loop μ-loop
-shared-slice-read-hex c = search needs
-
-hex-requires-2 : tie.Need-hex-requires-2 Inv-loop μ-loop
-hex-requires-2 c κs = search needs
+is-digit-requires : tie.Need-is-digit-requires Inv-loop μ-loop
+is-digit-requires c κs = search needs
 
 no-cut-requires-3 : tie.Need-no-cut-requires-3 Inv-loop μ-loop
 no-cut-requires-3 c κs = search needs
 
 returns-4 : tie.Need-returns-4 Inv-loop μ-loop
-returns-4 c = let g = c .before .before .before .before .before .before .before .before .before .loop .inv in cut-bad g (c .no-cut3 .ensures) (go-high (g .going) (c .before .before .before .before .before .before .before .before .loop-test .taken) (c .before .before .before .before .before .before .if1 .left) (hex-no _ (rw (c .before .before .before .before .hex .ensures .0) at (c .before .if4 .taken))))
+returns-4 c = let g = c .before .before .before .before .before .before .before .before .loop .inv in cut-bad g (c .no-cut3 .ensures) (go-high (g .going) (c .before .before .before .before .before .before .before .loop-test .taken) (c .before .before .before .before .before .if1 .left) (sym (c .before .before .is-digit .ensures) ∙ not-true _ (c .before .if4 .taken)))
+
+is-digit-requires-2 : tie.Need-is-digit-requires-2 Inv-loop μ-loop
+is-digit-requires-2 c κs = search needs
 
 no-cut-requires-4 : tie.Need-no-cut-requires-4 Inv-loop μ-loop
 no-cut-requires-4 c κs = search needs
 
 returns-5 : tie.Need-returns-5 Inv-loop μ-loop
-returns-5 c = let g = c .before .before .before .before .before .before .before .before .before .before .loop .inv in cut-bad g (c .no-cut4 .ensures) (go-low (g .going) (omega arith) (c .before .before .before .before .before .before .before .if1 .left) (hex-no _ (rw (c .before .before .before .hex2 .ensures .0) at (c .before .if5 .taken))))
+returns-5 c = let g = c .before .before .before .before .before .before .before .before .before .before .loop .inv in cut-bad g (c .no-cut4 .ensures) (go-low (g .going) (c .before .before .before .before .before .before .if3 .left) (c .before .before .before .before .before .before .before .if1 .left) (sym (c .before .before .is-digit2 .ensures) ∙ not-true _ (c .before .if5 .taken)))
 
-mul-b : tie.Need-mul-b Inv-loop μ-loop
-mul-b c = search needs
+digit-requires : tie.Need-digit-requires Inv-loop μ-loop
+digit-requires c κs = sym (c .before .before .before .is-digit .ensures) ∙ not-false _ (c .before .before .if4 .left)
 
-add-b : tie.Need-add-b Inv-loop μ-loop
-add-b c = search needs
+mul-v : tie.Need-mul-v Inv-loop μ-loop
+mul-v c = search needs
+
+digit-requires-2 : tie.Need-digit-requires-2 Inv-loop μ-loop
+digit-requires-2 c κs = sym (c .before .before .is-digit2 .ensures) ∙ not-false _ (c .before .if5 .left)
+
+add-v : tie.Need-add-v Inv-loop μ-loop
+add-v c = search needs
 
 array-write-b : tie.Need-array-write-b Inv-loop μ-loop
 array-write-b c = search needs
 
 add-n : tie.Need-add-n Inv-loop μ-loop
-add-n c = let g = c .before .before .before .before .before .before .before .before .before .before .loop .inv in omega (arith, g .count, g .going .place)
+add-n c = let g = c .before .before .before .before .before .before .before .before .before .before .before .before .loop .inv in omega (arith, g .count, g .going .place)
 
 add-i : tie.Need-add-i Inv-loop μ-loop
 add-i c = search needs
@@ -90,7 +97,9 @@ loop-less : tie.Need-loop-less Inv-loop μ-loop
 loop-less c = search needs
 
 loop-again : tie.Need-loop-again Inv-loop μ-loop
-loop-again c = scan-on (c .before .before .before .before .before .before .before .before .before .before .loop .inv) (omega arith) (c .before .before .before .before .before .hex .ensures .0) (c .before .before .if4 .left) (c .before .before .before .hex2 .ensures .0) (c .before .if5 .left) (⊎-elim (λ w. inl (w .0 .taken, w .1)) (λ w. inr (w .0 .left, w .1)) (c .if6 .came))
+loop-again c =
+    scan-on (c .before .before .before .before .before .before .before .before .before .before .before .before .loop .inv) (c .before .before .before .before .before .before .before .before .if3 .left) (sym (c .before .before .before .before .before .before .is-digit .ensures) ∙ not-false _ (c .before .before .before .before .before .if4 .left)) (sym (c .before .before .before .before .is-digit2 .ensures) ∙ not-false _ (c .before .before .before .if5 .left)) (ap₂ (λ (x y : ℕ). x * 16 + y) (c .before .before .digit .ensures .0) (c .before .digit2 .ensures .0))
+    (⊎-elim (λ w. inl (w .0 .taken, w .1)) (λ w. inr (w .0 .left, w .1)) (c .if6 .came))
 
 no-cut-requires-5 : tie.Need-no-cut-requires-5 Inv-loop μ-loop
 no-cut-requires-5 c κs = search needs
@@ -113,16 +122,18 @@ scan-spec =
     add-if3
     no-cut-requires-2
     returns-3
-    hex-requires
-    add-hex
-    shared-slice-read-hex
-    hex-requires-2
+    add-d
+    shared-slice-read-d
+    is-digit-requires
     no-cut-requires-3
     returns-4
+    is-digit-requires-2
     no-cut-requires-4
     returns-5
-    mul-b
-    add-b
+    digit-requires
+    mul-v
+    digit-requires-2
+    add-v
     array-write-b
     add-n
     add-i

@@ -5,3 +5,4 @@ pub mod Runs
 pub mod Sets
 pub mod Effects
 pub mod Typing
+pub mod Admits

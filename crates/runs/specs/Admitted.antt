@@ -69,5 +69,8 @@ referencesOf (invokestatic n rs) = rs
 referencesOf (invokemethod n v r rs) = r ∷ rs
 referencesOf (return r) = []
 
-abbrev pub Refers : List Placed → Type 0
-Refers ks = (k : Placed) → In k ks → (r : ℕ) → In r (referencesOf (k .step)) → Reference r
+abbrev pub ProperStep : Step → Type 0
+ProperStep k = (r : ℕ) → In r (referencesOf k) → Reference r
+
+abbrev pub Proper : List Placed → Type 0
+Proper ks = (k : Placed) → In k ks → ProperStep (k .step)

@@ -6,3 +6,5 @@ pub mod Sets
 pub mod Effects
 pub mod Typing
 pub mod Admits
+pub mod Sorted
+pub mod Held

@@ -92,3 +92,15 @@ textOf (h ∷ hs) = lineOf h ++ textOf hs
 unfoldable pub holdingsText : Package → State → List ℕ
 unfolding shown textOf
 holdingsText P s = textOf (shown P s)
+
+-- ---- the order of the lines
+
+-- one line stands before another by bytes
+pub data Before : List ℕ → List ℕ → Type 0 where
+  here : {x y : ℕ} {xs ys : List ℕ} → x < y → Before (x ∷ xs) (y ∷ ys)
+  later : {x : ℕ} {xs ys : List ℕ} → Before xs ys → Before (x ∷ xs) (x ∷ ys)
+
+-- each line stands before all that follow: sorted by bytes, each once
+abbrev pub Rising : List Holding → Type 0
+Rising [] = Unit {0}
+Rising (h ∷ hs) = ((x : Holding) → In x hs → Before (lineOf h) (lineOf x)) × Rising hs

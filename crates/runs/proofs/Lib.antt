@@ -8,3 +8,7 @@ pub mod Typing
 pub mod Admits
 pub mod Sorted
 pub mod Held
+pub mod Keeping
+pub mod Active
+pub mod Stack
+pub mod Confinement

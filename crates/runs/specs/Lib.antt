@@ -5,5 +5,6 @@ pub mod Script
 pub mod Admitted
 pub mod Holdings
 pub mod Programs
+pub mod Kept
 pub mod Reach
 pub mod Examples

@@ -2,7 +2,7 @@
 -- Assumes nothing.
 use Prim.Native.Nat.{ℕ, _+_, _*_, _≤_, _<_}
 use mathlib.Core.Path.{_≡_}
-use mathlib.Core.List.{List}
+use mathlib.Core.List.{List, []}
 use lib.ListN.{take, drop}
 use Rattle.meaning.specs.Tables.{Package, home, targetOf, potencyOf}
 use Rattle.meaning.specs.Trust.{Dominated, Subtype}
@@ -10,10 +10,11 @@ use Rattle.meaning.specs.Reading.{Answer, answer, isRead, readText}
 use Rattle.meaning.specs.Good.{Good}
 use Rattle.meaning.specs.Laws.{rules, NoneBroken}
 use Rattle.runs.specs.Machine.{State}
-use Rattle.runs.specs.Run.{Placed, Outcome, runFrom}
+use Rattle.runs.specs.Run.{Placed, Leads, Outcome, runFrom}
 use Rattle.runs.specs.Script.{Script, isScript, readScript}
 use Rattle.runs.specs.Admitted.{Admitted}
 use Rattle.runs.specs.Holdings.{Holds, holding, lineOf}
+use Rattle.runs.specs.Kept.{Keeps}
 use Rattle.runs.specs.Programs.{Ran, runOf}
 
 -- "A domain reaches r at C when it holds r with a label that is a subtype of C"
@@ -36,6 +37,13 @@ pub record Accepted (P : Package) : Type 1 where
 -- after the steps ks from s
 abbrev pub after : Package → State → List Placed → State
 after P s ks = (runFrom P s 0 ks) .state
+
+-- 003's Theorem 4: of every package that keeps the rules, and of any number of moves from an empty stack
+abbrev pub Theorem4 : Type 0
+Theorem4 =
+    (P : Package) → Keeps P
+    → (s t : State) (ks : List Placed) → s .saved ≡ [] → Leads P s ks t
+    → (d r c : ℕ) → Reaches P t d r c → Allowed P s (s .method) d r c
 
 -- demand 3: for every accepted package, every admitted start, every list of steps of any length
 abbrev pub Demand3 : Type 1

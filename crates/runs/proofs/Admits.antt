@@ -293,6 +293,11 @@ module _ (P : Package) (g : Good P) (R : Reader) (old : Sound P R) (f : List ℕ
 
 -- ---- lines, the text
 
+-- what is known of a run text that is read
+pub record Starts (P : Package) (S : Script) : Type 0 where
+  pub start : Admitted P (S .start)
+  pub steps : Proper (S .steps)
+
 module _ (P : Package) (g : Good P) where
   -- before line 1 there is no section
   abbrev SoFar : Reader → Type 0
@@ -336,29 +341,25 @@ module _ (P : Package) (g : Good P) where
             };
       }
 
-  pub record Starts (S : Script) : Type 0 where
-    pub start : Admitted P (S .start)
-    pub steps : Proper (S .steps)
-
-  lines-start : (ls : List Line) (R : Reader) (n : ℕ) (S : Script) → SoFar R → readLines P R n ls ≡ isScript S → Starts S
+  lines-start : (ls : List Line) (R : Reader) (n : ℕ) (S : Script) → SoFar R → readLines P R n ls ≡ isScript S → Starts P S
   unfolding readLines readEnd
   lines-start [] R n S r e = on (eqb (R .section) 0x2F) refl r e
     where
-      on : (b : Bool) → eqb (R .section) 0x2F ≡ b → SoFar R → cond b (isScript (record { start = startOf R; steps = R .steps })) (isNone (answer 59 (suc n) 0)) ≡ isScript S → Starts S
+      on : (b : Bool) → eqb (R .section) 0x2F ≡ b → SoFar R → cond b (isScript (record { start = startOf R; steps = R .steps })) (isNone (answer 59 (suc n) 0)) ≡ isScript S → Starts P S
       on true q (inl z) e = absurd (omega (arith, eqb-true (R .section) 0x2F q))
       on true q (inr o) e = let p : record { start = startOf R; steps = R .steps } ≡ S = cc in rw (← p) (record { start = start-admitted R o; steps = o .steps })
       on false q r e = absurd (let z : _≡_ {A = ℕ} 0 1 = cc in omega arith)
   lines-start (l ∷ ls) R n S r e = on (takeLine P R (suc n) l) (line-fine R (suc n) l r) e (λ Q. lines-start ls Q (suc n) S)
     where
-      on : (t : Took Reader) → Fine (Sound P) t → readNext (suc n) t (λ (Q : Reader). readLines P Q (suc n) ls) ≡ isScript S → ((Q : Reader) → SoFar Q → readLines P Q (suc n) ls ≡ isScript S → Starts S) → Starts S
+      on : (t : Took Reader) → Fine (Sound P) t → readNext (suc n) t (λ (Q : Reader). readLines P Q (suc n) ls) ≡ isScript S → ((Q : Reader) → SoFar Q → readLines P Q (suc n) ls ≡ isScript S → Starts P S) → Starts P S
       on (refuses k) h e go = absurd (let z : _≡_ {A = ℕ} 0 1 = cc in omega arith)
       on (takes Q) (fine o) e go = go Q (inr o) e
 
   -- the start is admitted
-  pub script-starts : (t : List ℕ) (S : Script) → readScript P t ≡ isScript S → Starts S
+  pub script-starts : (t : List ℕ) (S : Script) → readScript P t ≡ isScript S → Starts P S
   unfolding readScript
   script-starts t S e = on (leb (length t) 32768) e
     where
-      on : (b : Bool) → readShort P t b ≡ isScript S → Starts S
+      on : (b : Bool) → readShort P t b ≡ isScript S → Starts P S
       on true e = lines-start (linesOf t) noReader 0 S (inl refl) e
       on false e = absurd (let z : _≡_ {A = ℕ} 0 1 = cc in omega arith)

@@ -12,3 +12,4 @@ pub mod Keeping
 pub mod Active
 pub mod Stack
 pub mod Confinement
+pub mod Written

@@ -2,9 +2,9 @@
 -- that is held afterwards: any predicate will do.
 -- Assumes nothing.
 use Prim.Native.Nat.{ℕ}
-use mathlib.Core.Path.{_≡_, refl, sym, subst}
+use mathlib.Core.Path.{_≡_, refl, subst}
 use mathlib.Core.Option.{Option, none, some}
-use mathlib.Core.List.{List, [], _∷_, List·Memᴰ·head, List·Memᴰ·tail}
+use mathlib.Core.List.{List, _∷_, List·Memᴰ·head, List·Memᴰ·tail}
 use Rattle.meaning.specs.Lists.{In}
 use Rattle.meaning.specs.Tables.{Package, home, ownerOf, paramsOf, fieldClass, fieldType}
 use Rattle.runs.specs.Machine.{Link, Label, Saved, State, Step, widen, new, checkcast, getstatic, putstatic, getfield, putfield, invokestatic, invokemethod, return, label, sameLabel, sameLink, add, given, passed, Returns, Moves, t-widen, t-new, t-checkcast, t-getstatic, t-putstatic, t-getfield, t-putfield, t-invokestatic, t-invokemethod, t-return}

@@ -2,17 +2,16 @@
 -- read so far.
 -- Assumes nothing.
 use Prim.Native.Nat.{ℕ, suc, _+_, _-_, _*_, _≤_, _<_}
-use native.Mathlib.Nat.{not-suc-le-zero}
 use native.Mathlib.Omega.{arith}
 use mathlib.Core.Path.{_≡_, refl, sym, ap, subst}
 use mathlib.Core.Logic.{_⊎_, inl, inr}
-use mathlib.Core.Bool.{Bool, true, false, _&&_, _||_, not, cond}
+use mathlib.Core.Bool.{Bool, true, false, _&&_, not, cond}
 use mathlib.Core.Option.{Option, none, some}
-use mathlib.Core.List.{List, [], _∷_, _++_, List·Memᴰ·head, List·Memᴰ·tail, List·Memᴰ·not-nil, List·Memᴰ·cases-cons, List·Memᴰ·eq-of-singleton, Memᴰ·cast, Memᴰ·append-right}
-use lib.Dec.{T, T-not, eqb, leb, ltb, eqb→eq, leb→le, ltb→lt, nleb→lt}
-use lib.ListN.{length, take, drop, getD, length-append, take-append-drop, List·getD-eq-default}
+use mathlib.Core.List.{List, [], _∷_, _++_, List·Memᴰ·not-nil, List·Memᴰ·eq-of-singleton, Memᴰ·append-right}
+use lib.Dec.{T, T-not, eqb, leb, ltb, leb→le, ltb→lt}
+use lib.ListN.{length, take, drop, length-append, take-append-drop, List·getD-eq-default}
 use borrow.Author.Tests.{eq-eqb, eqb-true, eqb-false, not-true}
-use Rattle.meaning.specs.Lists.{In, any, all}
+use Rattle.meaning.specs.Lists.{In, all}
 use Rattle.meaning.specs.Text.{Line, linesOf, isDigit, digit, before, decode, notEmpty, frameOf, byte}
 use Rattle.meaning.specs.Kinds.{rowOf, fits, follows}
 use Rattle.meaning.specs.Tables.{Package, Field, paramsOf}
@@ -22,11 +21,11 @@ use Rattle.meaning.proofs.Bools.{both, either, passes-true, Decides, decided, d
 use Rattle.meaning.proofs.Lists.{all-sound, getD-in}
 use Rattle.meaning.proofs.ReadLists.{cond-elim}
 use Rattle.meaning.proofs.Trust.{good-rising}
-use Rattle.runs.specs.Machine.{Object, Link, Label, State, Step, widen, new, checkcast, getstatic, putstatic, getfield, putfield, invokestatic, invokemethod, return, noOwner, object, label}
+use Rattle.runs.specs.Machine.{Link, State, Step, object, label}
 use Rattle.runs.specs.Steps.{inPool, isA}
 use Rattle.runs.specs.Run.{Placed, placed}
-use Rattle.runs.specs.Script.{Reader, isReference, isFieldOf, someField, withLinkLine, takeEntry, takeObject, takeStaticLink, takeObjectLink, takeLabel, onType, onStatic, onField, onStaticMethod, onMethod, stepOf, placeStep, takeStep, takeEnd, takeLater, takeFrame, takeIf, takeLine, Script, ScriptReading, isScript, isNone, startOf, readNext, readEnd, readLines, noReader, readShort, readScript}
-use Rattle.runs.specs.Admitted.{IsA, FieldOf, TypedLink, ofClass, ofObject, Reference, Typed, Within, Admitted, referencesOf, ProperStep, Proper}
+use Rattle.runs.specs.Script.{Reader, isReference, isFieldOf, someField, withLinkLine, takeEntry, takeObject, takeStaticLink, takeObjectLink, takeLabel, onType, onStatic, onField, onStaticMethod, onMethod, stepOf, placeStep, takeStep, takeEnd, takeLater, takeFrame, takeIf, takeLine, Script, isScript, isNone, startOf, readNext, readEnd, readLines, noReader, readShort, readScript}
+use Rattle.runs.specs.Admitted.{IsA, FieldOf, TypedLink, ofClass, ofObject, Reference, Typed, Admitted, ProperStep, Proper}
 use Rattle.runs.proofs.Tests.{decides-in, decides-inPool, decides-isA, decides-sameLink, decides-sameLabel}
 use Rattle.runs.proofs.Sets.{joins-each, joins-cons, joins-last, in-set, length-addAll}
 use Rattle.runs.proofs.Typing.{typed-label, typed-link, typed-object}

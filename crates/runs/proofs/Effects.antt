@@ -1,13 +1,11 @@
 -- What the tables say of an effect that permits a step: it stands at some place, and what it names is declared and of its kind.
 -- Assumes nothing.
 use Prim.Native.Nat.{ℕ, _<_}
-use mathlib.Core.Path.{_≡_, refl, sym, _∙_, ap, subst₂}
-use mathlib.Core.Bool.{Bool, true, false, _&&_}
-use mathlib.Core.List.{List, Memᴰ·cast}
+use mathlib.Core.Path.{_≡_, sym, ap, subst₂}
+use mathlib.Core.List.{Memᴰ·cast}
 use lib.Dec.{T, eqb, eqb→eq, ltb, ltb→lt}
 use lib.ListN.{length}
-use Rattle.meaning.specs.Lists.{In}
-use Rattle.meaning.specs.Tables.{Package, Field, Effect, noField, noEffect, fieldAt, effectAt, fieldClass, fieldType, callerOf, opOf, namedBy}
+use Rattle.meaning.specs.Tables.{Package, Effect, noField, noEffect, fieldAt, fieldClass, fieldType, callerOf, opOf, namedBy}
 use Rattle.meaning.specs.Reading.{isClass, isType, isField, isNamed}
 use Rattle.meaning.specs.Good.{Good}
 use Rattle.meaning.proofs.Bools.{both}

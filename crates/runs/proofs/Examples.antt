@@ -1,9 +1,6 @@
 -- 01's worked run, computed from its bytes to the printed bytes, and refused runs with the buffer that each leaves.
 -- Assumes nothing.
-use Prim.Native.Nat.{ℕ, _≤_}
 use mathlib.Core.Path.{_≡_, refl, _∙_, ap}
-use mathlib.Core.List.{List}
-use lib.ListN.{length}
 use Rattle.runs.specs.Programs.{Told, tellOf, write, runOutput}
 use Rattle.runs.specs.Examples.{sample, worked, printed, each, Case, refused, notRead, Right, AllRight}
 use Rattle.runs.proofs.Written.{run-told}

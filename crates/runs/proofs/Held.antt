@@ -1,7 +1,7 @@
 -- The holdings that are written are exactly those that a frame, a saved frame or a link of a domain holds, in rising order, and fit 7,200
 -- bytes.
 -- Assumes nothing.
-use Prim.Native.Nat.{ℕ, suc, _+_, _*_, _≤_, _<_}
+use Prim.Native.Nat.{ℕ, _*_, _≤_, _<_}
 use native.Mathlib.Omega.{arith}
 use mathlib.Core.Path.{_≡_, refl, sym, _∙_, ap, subst}
 use mathlib.Core.Logic.{_⊎_, inl, inr, _↔_}
@@ -12,9 +12,9 @@ use Rattle.meaning.specs.Tables.{Package, Class, noClass, home, ownerOf}
 use Rattle.meaning.specs.Good.{Good}
 use Rattle.meaning.proofs.Bools.{decided, decides-lt}
 use Rattle.meaning.proofs.Trust.{good-rising, subtype-le}
-use Rattle.runs.specs.Machine.{Link, Label, Saved, State, label}
+use Rattle.runs.specs.Machine.{Label, Saved, State, label}
 use Rattle.runs.specs.Admitted.{IsA, Typed, Within}
-use Rattle.runs.specs.Holdings.{Holding, holding, Holds, ofLabel, ofLink, ofSaved, holdings, sorted, shown, hex, lineOf, textOf, holdingsText, Rising}
+use Rattle.runs.specs.Holdings.{Holding, holding, Holds, ofLabel, ofLink, ofSaved, holdings, sorted, shown, lineOf, textOf, holdingsText, Rising}
 use Rattle.runs.proofs.Typing.{link-target}
 use Rattle.runs.proofs.Sorted.{Bytes, in-sorted, sorted-in, length-sorted, sorted-rising}
 

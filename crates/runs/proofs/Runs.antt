@@ -10,7 +10,7 @@ use Rattle.meaning.specs.Lists.{In}
 use Rattle.meaning.specs.Tables.{Package}
 use Rattle.meaning.specs.Reading.{answer, Took, takes, refuses}
 use Rattle.meaning.proofs.Trust.{Rising}
-use Rattle.runs.specs.Machine.{State, Step, FirstMissing}
+use Rattle.runs.specs.Machine.{State}
 use Rattle.runs.specs.Steps.{step}
 use Rattle.runs.specs.Run.{Placed, Leads, Goes, Prefix, Outcome, outcome, Answers, runNext, runFrom}
 use Rattle.runs.proofs.Steps.{Judged, goes-lacks, step-judged, step-only}

@@ -1,7 +1,6 @@
 -- Sets as lists: what is in a set with an element more, and how many there are.
 -- Assumes nothing.
-use Prim.Native.Nat.{ℕ, suc, _+_, _≤_, _<_}
-use native.Mathlib.Nat.{le-refl, le-trans}
+use Prim.Native.Nat.{ℕ, suc, _+_, _≤_}
 use native.Mathlib.Omega.{arith}
 use mathlib.Core.Path.{_≡_, refl, sym, subst}
 use mathlib.Core.Logic.{_⊎_, inl, inr}
@@ -11,7 +10,7 @@ use lib.Dec.{T}
 use lib.ListN.{length, length-append}
 use Rattle.meaning.specs.Lists.{In, any}
 use Rattle.meaning.proofs.Bools.{Decides, decided}
-use Rattle.runs.specs.Machine.{Label, label, sameLabel, add, addAll, passed, HoldsAll, RoomFor}
+use Rattle.runs.specs.Machine.{Label, label, add, addAll, passed, HoldsAll, RoomFor}
 use Rattle.runs.proofs.Tests.{decides-in}
 
 -- ys is xs with x

@@ -1,8 +1,8 @@
 -- The holdings that are written: sorted and each once by their key, which rises as the bytes of their lines do.
 -- Assumes nothing.
-use Prim.Native.Nat.{ℕ, suc, _+_, _*_, _/_, _%_, _≤_, _<_}
+use Prim.Native.Nat.{ℕ, suc, _+_, _/_, _%_, _≤_, _<_}
 use native.Mathlib.Omega.{arith}
-use mathlib.Core.Path.{_≡_, refl, sym, _∙_, ap, subst}
+use mathlib.Core.Path.{_≡_, refl, sym, subst}
 use mathlib.Core.Logic.{_⊎_, inl, inr}
 use mathlib.Core.Bool.{Bool, true, false, cond}
 use mathlib.Core.List.{List, [], _∷_, _++_, List·Memᴰ·head, List·Memᴰ·tail, List·Memᴰ·not-nil, List·Memᴰ·cases-cons}
@@ -11,9 +11,8 @@ use lib.ListN.{length}
 use borrow.Author.Tests.{ltb-true, ltb-false, leb-true, leb-false, eqb-true, eqb-false}
 use Rattle.meaning.specs.Lists.{In}
 use Rattle.meaning.proofs.Bools.{decided, decides-lt}
-use Rattle.meaning.proofs.ReadLists.{cond-elim}
 use Rattle.runs.specs.Holdings.{Holding, holding, key, put, insert, sorted, hexDigit, hex, lineOf, Before, here, later, Rising}
-use Rattle.runs.proofs.Sets.{Joins, joins-each, joins-cons}
+use Rattle.runs.proofs.Sets.{joins-each, joins-cons}
 
 -- ---- what is in a sorted list
 

@@ -6,12 +6,12 @@ use mathlib.Core.Path.{_≡_, refl, sym, _∙_, ap, subst}
 use mathlib.Core.Logic.{_⊎_, inl, inr}
 use mathlib.Core.Option.{some}
 use mathlib.Core.List.{List, [], _∷_}
-use Rattle.meaning.specs.Tables.{Package, home, ownerOf, resultOf, labelOf}
+use Rattle.meaning.specs.Tables.{Package, home, ownerOf, resultOf}
 use Rattle.meaning.specs.Trust.{Dominated, Trusts, MethodTrusts, Mates}
 use Rattle.meaning.proofs.Accepted.{lawful}
 use Rattle.meaning.proofs.Trust.{good-rising}
 use Rattle.runs.specs.Machine.{Saved, State, Step, RunsFor, Permits, Moves, t-widen, t-new, t-checkcast, t-getstatic, t-putstatic, t-getfield, t-putfield, t-invokestatic, t-invokemethod, t-return}
-use Rattle.runs.specs.Run.{Placed, Goes, runFrom}
+use Rattle.runs.specs.Run.{Placed, runFrom}
 use Rattle.runs.specs.Kept.{Keeps}
 use Rattle.runs.specs.Reach.{Accepted}
 use Rattle.runs.proofs.Runs.{run-keeps}

@@ -1,10 +1,9 @@
 -- A step goes to t exactly when it moves there and has room, and is refused exactly with what is missing first. Each kind of step asks an
 -- effect, its other premises and room, in this order, and each of the three is decided by its tests.
 -- Assumes nothing.
-use Prim.Native.Nat.{ℕ, _<_}
+use Prim.Native.Nat.{ℕ}
 use mathlib.Core.Path.{_≡_, refl, sym, _∙_, ap, subst}
 use mathlib.Core.Bool.{Bool, true, false, _&&_, not}
-use mathlib.Core.Option.{Option, none, some}
 use mathlib.Core.Logic.{_↔_}
 use mathlib.Core.List.{List, [], _∷_, cons≢nil}
 use lib.Dec.{T}
@@ -15,8 +14,8 @@ use Rattle.meaning.specs.Trust.{Subtype}
 use Rattle.meaning.specs.Reading.{Took, takes, refuses, need}
 use Rattle.meaning.proofs.Bools.{Decides, decides-lt, decides-as, decides-not, decides-and}
 use Rattle.meaning.proofs.Trust.{Rising}
-use Rattle.runs.specs.Machine.{Link, Saved, State, Step, widen, new, checkcast, getstatic, putstatic, getfield, putfield, invokestatic, invokemethod, return, object, label, sameLink, sameLabel, withLabel, withObject, withLink, called, resumed, staticLink, fieldLink, passed, HoldsAll, Fresh, RunsFor, Returns, RoomFor, RoomBack, Moves, t-widen, t-new, t-checkcast, t-getstatic, t-putstatic, t-getfield, t-putfield, t-invokestatic, t-invokemethod, t-return, Room, Permitted, Stranded, FirstMissing}
-use Rattle.runs.specs.Steps.{permits, permitsField, holds, holdsRef, holdsBelow, holdsAll, hasLink, inPool, isA, runsFor, returns, roomFor, roomGiven, join, make, link, call, back, step}
+use Rattle.runs.specs.Machine.{Link, Saved, State, Step, widen, new, checkcast, getstatic, putstatic, getfield, putfield, invokestatic, invokemethod, return, object, label, sameLink, sameLabel, withLabel, withObject, withLink, called, resumed, staticLink, fieldLink, passed, HoldsAll, Fresh, RunsFor, Returns, RoomFor, Moves, t-widen, t-new, t-checkcast, t-getstatic, t-putstatic, t-getfield, t-putfield, t-invokestatic, t-invokemethod, t-return, Room, Permitted, Stranded, FirstMissing}
+use Rattle.runs.specs.Steps.{holdsBelow, inPool, returns, roomFor, roomGiven, join, make, link, call, back, step}
 use Rattle.runs.specs.Run.{Goes}
 use Rattle.runs.proofs.Tests.{decides-sameLabel, decides-sameLink, decides-permits, decides-permitsField, decides-holds, decides-holdsRef, decides-holdsBelow, decides-holdsAll, decides-hasLink, decides-inPool, decides-isA, decides-runsFor, decides-returns, decides-roomFor, decides-roomGiven}
 

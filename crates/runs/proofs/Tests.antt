@@ -1,22 +1,19 @@
 -- The tests of Steps.antt decide the premises of Machine.antt.
 -- Assumes nothing.
-use Prim.Native.Nat.{ℕ, _<_}
+use Prim.Native.Nat.{ℕ}
 use mathlib.Core.Path.{_≡_, refl, sym, _∙_, ap}
-use mathlib.Core.Logic.{_⊎_}
-use mathlib.Core.Bool.{Bool, _&&_}
+use mathlib.Core.Bool.{Bool}
 use mathlib.Core.Option.{Option, none, some}
 use mathlib.Core.List.{List, [], _∷_, Memᴰ·cast}
-use lib.Dec.{T, eqb}
 use lib.ListN.{length}
 use Rattle.meaning.specs.Lists.{In, any}
 use Rattle.meaning.specs.Tables.{Package, Effect, fieldClass, fieldType}
 use Rattle.meaning.specs.Trust.{Subtype}
-use Rattle.meaning.proofs.Bools.{Decides, decides-test, decides-eq, decides-lt, decides-as, decides-not, decides-and, decides-or}
+use Rattle.meaning.proofs.Bools.{Decides, decides-eq, decides-lt, decides-as, decides-and, decides-or}
 use Rattle.meaning.proofs.Lists.{decides-any}
 use Rattle.meaning.proofs.Trust.{Rising, decides-subtype, decides-overrides}
-use Rattle.runs.specs.Machine.{Object, Link, Label, nothing, object, label, sameObject, sameLink, sameLabel, Permits, PermitsField, HoldsAll, Fresh, RunsFor, Returns, RoomFor, RoomGiven}
+use Rattle.runs.specs.Machine.{Object, Link, Label, nothing, object, label, sameObject, sameLink, sameLabel, Permits, PermitsField, HoldsAll, RunsFor, Returns, RoomFor, RoomGiven}
 use Rattle.runs.specs.Steps.{isEffect, permits, likeField, isFieldEffect, permitsField, holds, isOf, holdsRef, isBelow, holdsBelow, holdsAll, hasLink, isNumbered, inPool, isObjectBelow, isA, runsFor, returns, roomFor, roomGiven}
-use Rattle.runs.specs.Admitted.{IsA}
 
 -- ---- searches
 

@@ -1,22 +1,22 @@
 -- What 57 and 60 admit is kept by every step: each label is a supertype of its object's class, each link's types fit its target and owner,
 -- and every number used is in the pool. The counts stay in their limits.
 -- Assumes nothing.
-use Prim.Native.Nat.{ℕ, suc, _+_, _≤_, _<_}
+use Prim.Native.Nat.{ℕ, _≤_, _<_}
 use native.Mathlib.Omega.{arith}
 use mathlib.Core.Path.{_≡_, refl, sym, _∙_, ap, subst}
 use mathlib.Core.Logic.{_⊎_, inl, inr}
 use mathlib.Core.Option.{Option, none, some}
-use mathlib.Core.List.{List, [], _∷_, List·Memᴰ·head, List·Memᴰ·tail, List·Memᴰ·cases-cons}
+use mathlib.Core.List.{List, [], _∷_, List·Memᴰ·head, List·Memᴰ·tail}
 use lib.ListN.{length, List·getD-eq-default}
 use Rattle.meaning.specs.Lists.{In}
-use Rattle.meaning.specs.Tables.{Package, Method, noMethod, ownerOf, paramsOf, fieldClass, fieldType}
+use Rattle.meaning.specs.Tables.{Package, Method, noMethod, ownerOf, paramsOf}
 use Rattle.meaning.specs.Trust.{Subtype}
 use Rattle.meaning.specs.Good.{Good}
 use Rattle.meaning.proofs.Bools.{decides-lt, decided}
 use Rattle.meaning.proofs.Trust.{good-rising, subtype-trans}
-use Rattle.runs.specs.Machine.{Object, Link, Label, Saved, State, Step, object, label, sameObject, sameLink, sameLabel, add, addAll, withLabel, withObject, withLink, called, given, resumed, passed, Fresh, Returns, RoomGiven, Moves, t-widen, t-new, t-checkcast, t-getstatic, t-putstatic, t-getfield, t-putfield, t-invokestatic, t-invokemethod, t-return, RoomFor, RoomBack, Room}
-use Rattle.runs.specs.Run.{Placed, Goes, runFrom}
-use Rattle.runs.specs.Admitted.{IsA, TypedLink, ofClass, ofObject, TypedLabels, Reference, Typed, Within, Admitted, ProperStep, Proper}
+use Rattle.runs.specs.Machine.{Object, Link, Label, Saved, State, Step, object, label, withLabel, withLink, called, given, resumed, passed, Fresh, Returns, RoomGiven, Moves, t-widen, t-new, t-checkcast, t-getstatic, t-putstatic, t-getfield, t-putfield, t-invokestatic, t-invokemethod, t-return, RoomFor, RoomBack, Room}
+use Rattle.runs.specs.Run.{Placed, runFrom}
+use Rattle.runs.specs.Admitted.{IsA, TypedLink, ofClass, ofObject, TypedLabels, Reference, Typed, Within, ProperStep, Proper}
 use Rattle.runs.proofs.Tests.{decides-sameObject, decides-sameLabel, decides-sameLink}
 use Rattle.runs.proofs.Sets.{Joins, joins-each, joins-cons, joins-add, in-set, room-add, length-addAll, passed-held, length-passed}
 use Rattle.runs.proofs.Runs.{run-keeps}

@@ -1,15 +1,14 @@
 -- What a call of `runOf` leaves in the buffer: as many bytes as before, and of every line that is written demand 3.
 -- Assumes nothing.
-use Prim.Native.Nat.{ℕ, zero, suc, _+_, _-_, _*_, _≤_, _<_}
+use Prim.Native.Nat.{ℕ, zero, suc, _+_, _*_, _≤_, _<_}
 use native.Mathlib.Omega.{arith}
 use mathlib.Core.Path.{_≡_, refl, sym, _∙_, ap, subst, subst₂}
-use mathlib.Core.Bool.{Bool, true, false, _&&_}
+use mathlib.Core.Bool.{Bool, true, false}
 use mathlib.Core.Option.{Option, none, some}
 use mathlib.Core.List.{List, [], _∷_, _++_, Memᴰ·cast}
 use lib.Dec.{T, eqb, ltb, ltb→lt}
 use lib.ListN.{length, getD, take, drop, length-append, length-drop}
-use lib.Seq.{take-append-le, drop-append-le}
-use borrow.Author.Tests.{ltb-true, ltb-false, le-ltb, eqb-true}
+use borrow.Author.Tests.{ltb-false, le-ltb, eqb-true}
 use Rattle.meaning.specs.Lists.{In, all, Place}
 use Rattle.meaning.specs.Tables.{Package}
 use Rattle.meaning.specs.Reading.{Answer, answer, Reading, isRead, isRefused, readText}
@@ -25,13 +24,14 @@ use Rattle.runs.specs.Run.{runFrom}
 use Rattle.runs.specs.Script.{Script, ScriptReading, isScript, isNone, readScript}
 use Rattle.runs.specs.Admitted.{Typed}
 use Rattle.runs.specs.Holdings.{Holding, holding, Holds, holdings, lineOf, textOf, shown, holdingsText}
-use Rattle.runs.specs.Programs.{Told, onlyAnswer, ofOutcome, ofScript, ifAccepted, ofReading, tellOf, Ran, write, ifRoom, runOf}
-use Rattle.runs.specs.Reach.{Reaches, Allowed, Accepted, RunConfined}
+use Rattle.runs.specs.Programs.{Told, onlyAnswer, ofOutcome, ofScript, ifAccepted, ofReading, tellOf, write, ifRoom, runOf}
+use Rattle.runs.specs.Reach.{Allowed, Accepted, RunConfined}
 use Rattle.runs.proofs.Typing.{typed-run, within-run}
 use Rattle.runs.proofs.Admits.{Starts, script-starts}
 use Rattle.runs.proofs.Sorted.{Bytes, in-sorted, line-one}
-use Rattle.runs.proofs.Held.{holdings-bytes, holdings-hold, shown-holds, length-text, text-fits}
-use Rattle.runs.proofs.Confinement.{demand3}
+use Rattle.runs.proofs.Held.{holdings-bytes, holdings-hold, length-text, text-fits}
+use Rattle.runs.proofs.Reached.{reached}
+use Rattle.runs.proofs.Demand.{demand3}
 
 -- ---- an answer of number 0 is acceptance
 
@@ -140,7 +140,7 @@ told-confined {p} {t} (Tells.ran {P = P′} {S = S′} e′ ok f′) b P e S f i
         (record { domain = hd; ref = hr; type = hc }) l q
 
     confined : (c′ : ℕ) → Subtype P′ c c′ → Allowed P′ (S′ .start) (S′ .start .method) d r c′
-    confined c′ u = demand3 P′ ok (S′ .start) (starts .start) (S′ .steps) d r c′ (record { label = c; held = holds; below = u })
+    confined c′ u = demand3 P′ ok (S′ .start) (starts .start) (S′ .steps) d r c′ (reached holds u)
 
 pub run-confined : (p t b : List ℕ) → RunConfined p t b
 unfolding runOf

@@ -8,7 +8,7 @@ use lib.ListN.{length, drop}
 use Rattle.meaning.specs.Reading.{Answer, answer}
 use Rattle.meaning.specs.Examples.{bytes, variant}
 use Rattle.runs.specs.Holdings.{hex, holding, lineOf}
-use Rattle.runs.specs.Programs.{Ran, runOf}
+use Rattle.runs.specs.Programs.{runOf}
 
 -- the package: variant (a) of meaning
 unfoldable pub sample : List ℕ

@@ -10,7 +10,7 @@ use mathlib.Core.List.{List, [], _∷_, _++_}
 use lib.Dec.{eqb}
 use lib.ListN.{length}
 use Rattle.meaning.specs.Lists.{In, any}
-use Rattle.meaning.specs.Tables.{Package, Effect, ownerOf, resultOf, paramsOf, fieldClass, fieldType}
+use Rattle.meaning.specs.Tables.{Package, ownerOf, resultOf, paramsOf, fieldClass, fieldType}
 use Rattle.meaning.specs.Trust.{Subtype, Overrides}
 
 -- ---- Fig. 3: ⟨Π, Γ; Φ, A.m, σ⟩

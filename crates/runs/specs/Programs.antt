@@ -1,7 +1,7 @@
 -- What is answered to a package and a run text, what the lent buffer then holds (01, "Run text", "Holdings"), and what the programs print
 -- (01, "Programs").
 -- Assumes nothing.
-use Prim.Native.Nat.{ℕ, suc, _+_, _/_, _%_}
+use Prim.Native.Nat.{ℕ, _+_, _/_, _%_}
 use mathlib.Core.Bool.{Bool, true, false, _&&_, cond}
 use mathlib.Core.List.{List, [], _∷_, _++_}
 use lib.Dec.{eqb, leb, ltb}

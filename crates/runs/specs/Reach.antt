@@ -4,24 +4,26 @@ use Prim.Native.Nat.{ℕ, _+_, _*_, _≤_, _<_}
 use mathlib.Core.Path.{_≡_}
 use mathlib.Core.List.{List, []}
 use lib.ListN.{take, drop}
-use Rattle.meaning.specs.Tables.{Package, home, targetOf, potencyOf}
+use Rattle.meaning.specs.Lists.{In}
+use Rattle.meaning.specs.Tables.{Package, home, ownerOf, targetOf, potencyOf}
 use Rattle.meaning.specs.Trust.{Dominated, Subtype}
-use Rattle.meaning.specs.Reading.{Answer, answer, isRead, readText}
+use Rattle.meaning.specs.Reading.{isRead, readText}
 use Rattle.meaning.specs.Good.{Good}
 use Rattle.meaning.specs.Laws.{rules, NoneBroken}
-use Rattle.runs.specs.Machine.{State}
-use Rattle.runs.specs.Run.{Placed, Leads, Outcome, runFrom}
+use Rattle.runs.specs.Machine.{Saved, State, label}
+use Rattle.runs.specs.Run.{Placed, Leads, runFrom}
 use Rattle.runs.specs.Script.{Script, isScript, readScript}
 use Rattle.runs.specs.Admitted.{Admitted}
-use Rattle.runs.specs.Holdings.{Holds, holding, lineOf}
+use Rattle.runs.specs.Holdings.{holding, lineOf}
 use Rattle.runs.specs.Kept.{Keeps}
-use Rattle.runs.specs.Programs.{Ran, runOf}
+use Rattle.runs.specs.Programs.{runOf}
 
--- "A domain reaches r at C when it holds r with a label that is a subtype of C"
-pub record Reaches (P : Package) (s : State) (d r c : ℕ) : Type 0 where
-  pub label : ℕ
-  pub held : Holds P s d r label
-  pub below : Subtype P label c
+-- "A domain reaches r at C when it holds r with a label that is a subtype of C." Fig. 7 with what 01 mends: the frame's running class must lie in
+-- the domain, and links widen too
+pub data Reaches (P : Package) (s : State) (d r c : ℕ) : Type 0 where
+  frame : {b : ℕ} → home P (ownerOf P (s .method)) ≡ d → In (label r b) (s .labels) → Subtype P b c → Reaches P s d r c
+  saved : {k : Saved} {b : ℕ} → In k (s .saved) → home P (ownerOf P (k .method)) ≡ d → In (label r b) (k .labels) → Subtype P b c → Reaches P s d r c
+  link : {o a b : ℕ} → home P a ≡ d → In (record { owner = o; declared = a; type = b; target = r }) (s .links) → Subtype P b c → Reaches P s d r c
 
 -- how d may come to reach r at c in a run of the entry method m from s: it did at the start; c is no capability for d; or it was granted
 pub data Allowed (P : Package) (s : State) (m d r c : ℕ) : Type 0 where

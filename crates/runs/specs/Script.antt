@@ -1,9 +1,7 @@
 -- Reading a run text (01, "Run text" and numbers 51 to 60): from bytes to the start and the steps, or to the first refusal with its number
 -- and line. 51 first; then lines in order, and within a line 52; on line 1 then 53, on later lines 55, 58, 56, 57, 60; then 59.
 -- Assumes nothing.
-use Prim.Native.Nat.{ℕ, suc, _<_}
-use mathlib.Core.Path.{_≡_}
-use mathlib.Core.Logic.{_⊎_}
+use Prim.Native.Nat.{ℕ, suc}
 use mathlib.Core.Bool.{Bool, true, false, _&&_, not, cond}
 use mathlib.Core.Option.{Option, none, some}
 use mathlib.Core.List.{List, [], _∷_, _++_}

@@ -9,9 +9,9 @@ use native.Mathlib.Decide.{ℕ-discrete, decLt}
 use native.Mathlib.Omega.{arith}
 use native.Mathlib.Nat.{not-suc-le-zero, le-of-suc-le-suc}
 use lib.Dec.{T, eqb}
-use lib.ListN.{length, getD, set, length-set}
+use lib.ListN.{length, getD, set, length-set, replicate, length-replicate}
 use lib.Seq.{ext-getD, getD-set-same, getD-set-other}
-use lib.Pow.{pow-lt}
+use lib.Pow.{pow-lt, pow-pos}
 use lib.Bits.{bitAnd, bitOr, or-lt, and-le-l}
 use borrow.Author.Tests.{lt-ltb, eq-eqb, ne-eqb}
 use Rattle.meaning.proofs.Bools.{both, and, either, or-left, or-right, true-passes, false-fails, Decides, decides-as, decides-eq, decides-and, decides-not, decides-same}
@@ -42,24 +42,38 @@ listed-of n f d l e at =
 abbrev pub Small : ℕ → List ℕ → Type 0
 Small w ws = (i : ℕ) → i < length ws → getD ws i 0 < 2 ^ w
 
+-- n words of w bits
+pub record Sized (w n : ℕ) (ws : List ℕ) : Type 0 where
+  pub long : length ws ≡ n
+  pub small : Small w ws
+
 module _ (w n : ℕ) (f : ℕ → ℕ → Bool) where
   pub word-bit : (i d : ℕ) → i < n → d < w → bit (getD (words w n f) i 0) d ≡ f i d
   unfolding words
   word-bit i d h l = ap (λ (x : ℕ). bit x d) (getD-listed n (λ (i : ℕ). number w (f i)) i 0 h) ∙ bit-number w (f i) d ∙ rw (lt-ltb d w l)
 
-  pub words-long : length (words w n f) ≡ n
+  pub words-sized : Sized w n (words w n f)
   unfolding words
-  words-long = length-listed n (λ (i : ℕ). number w (f i))
+  words-sized = record { long = long; small = λ i h. rw (getD-listed n (λ (i : ℕ). number w (f i)) i 0 (omega (arith, long))) (number-lt w (f i)) }
+    where
+      long : length (listed n (λ (i : ℕ). number w (f i))) ≡ n
+      long = length-listed n (λ (i : ℕ). number w (f i))
 
-  pub words-small : Small w (words w n f)
+  pub words-of : (ws : List ℕ) → Sized w n ws → ((i d : ℕ) → i < n → d < w → bit (getD ws i 0) d ≡ f i d) → ws ≡ words w n f
   unfolding words
-  words-small i h = rw (getD-listed n (λ (i : ℕ). number w (f i)) i 0 (omega (arith, words-long))) (number-lt w (f i))
+  words-of ws z at =
+      listed-of n (λ (i : ℕ). number w (f i)) 0 ws (z .long)
+      (λ i h. fixed w (getD ws i 0) (number w (f i)) (z .small i (omega (arith, z .long))) (number-lt w (f i)) (λ d l. at i d h l ∙ sym (bit-number w (f i) d ∙ rw (lt-ltb d w l))))
 
-  pub words-of : (ws : List ℕ) → length ws ≡ n → Small w ws → ((i d : ℕ) → i < n → d < w → bit (getD ws i 0) d ≡ f i d) → ws ≡ words w n f
-  unfolding words
-  words-of ws e small at =
-      listed-of n (λ (i : ℕ). number w (f i)) 0 ws e
-      (λ i h. fixed w (getD ws i 0) (number w (f i)) (small i (omega arith)) (number-lt w (f i)) (λ d l. at i d h l ∙ sym (bit-number w (f i) d ∙ rw (lt-ltb d w l))))
+-- ---- no bit
+
+pub zeros-at : (n i : ℕ) → getD (replicate n zero) i zero ≡ zero
+zeros-at zero i = refl
+zeros-at (suc n) zero = refl
+zeros-at (suc n) (suc i) = zeros-at n i
+
+pub zeros-sized : (w n : ℕ) → Sized w n (replicate n zero)
+zeros-sized w n = record { long = length-replicate n zero; small = λ i h. rw (zeros-at n i) (pow-pos w) }
 
 -- ---- a word or'ed
 
@@ -75,15 +89,12 @@ module _ (ws : List ℕ) (i x : ℕ) (h : i < length ws) where
       on (yes e) = rw (e, eq-eqb i i refl, getD-set-same ws i (bitOr (getD ws i 0) x) 0 h) (bit-or (getD ws i 0) x d)
       on (no u) = rw (ne-eqb j i u, getD-set-other ws i j (bitOr (getD ws i 0) x) 0 u) (sym (or-none (bit (getD ws j 0) d)))
 
-  pub or-small : (w : ℕ) → x < 2 ^ w → Small w ws → Small w (orAt ws i x)
-  or-small w l small j k = on (ℕ-discrete j i)
+  pub or-sized : (w n : ℕ) → x < 2 ^ w → Sized w n ws → Sized w n (orAt ws i x)
+  or-sized w n l z = record { long = length-set ws i (bitOr (getD ws i 0) x) ∙ z .long; small = λ j k. on j (omega (arith, length-set ws i (bitOr (getD ws i 0) x))) (ℕ-discrete j i) }
     where
-      k′ : j < length ws
-      k′ = omega (arith, length-set ws i (bitOr (getD ws i 0) x))
-
-      on : Dec (j ≡ i) → getD (orAt ws i x) j 0 < 2 ^ w
-      on (yes e) = rw (e, getD-set-same ws i (bitOr (getD ws i 0) x) 0 h) (or-lt w (getD ws i 0) x (small i h) l)
-      on (no u) = rw (getD-set-other ws i j (bitOr (getD ws i 0) x) 0 u) (small j k′)
+      on : (j : ℕ) → j < length ws → Dec (j ≡ i) → getD (orAt ws i x) j 0 < 2 ^ w
+      on j k (yes e) = rw (e, getD-set-same ws i (bitOr (getD ws i 0) x) 0 h) (or-lt w (getD ws i 0) x (z .small i h) l)
+      on j k (no u) = rw (getD-set-other ws i j (bitOr (getD ws i 0) x) 0 u) (z .small j k)
 
 -- ---- a relation on domains
 
@@ -92,7 +103,7 @@ module _ (n : ℕ) (f : ℕ → ℕ → Bool) where
   unfolding narrow
   narrow-bit = word-bit 32 32 (among n f)
 
-  pub narrow-of : (ws : List ℕ) → length ws ≡ 32 → Small 32 ws → ((e d : ℕ) → e < 32 → d < 32 → bit (getD ws e 0) d ≡ among n f e d) → ws ≡ narrow n f
+  pub narrow-of : (ws : List ℕ) → Sized 32 32 ws → ((e d : ℕ) → e < 32 → d < 32 → bit (getD ws e 0) d ≡ among n f e d) → ws ≡ narrow n f
   unfolding narrow
   narrow-of = words-of 32 32 (among n f)
 
@@ -119,10 +130,10 @@ module _ (n : ℕ) (f : ℕ → ℕ → Bool) where
       let j : 64 * ((2 * a + b / 64) % 2) + b % 64 ≡ b = omega arith in
       word-bit 64 254 there (2 * a + b / 64) (b % 64) (omega arith) (omega arith) ∙ ap₂ (among n f) i j
 
-  pub wide-of : (ws : List ℕ) → length ws ≡ 254 → Small 64 ws → ((a b : ℕ) → a < 127 → b < 128 → rowBit ws a b ≡ among n f a b) → ws ≡ wide n f
+  pub wide-of : (ws : List ℕ) → Sized 64 254 ws → ((a b : ℕ) → a < 127 → b < 128 → rowBit ws a b ≡ among n f a b) → ws ≡ wide n f
   unfolding wide rowBit
-  wide-of ws e small at =
-      words-of 64 254 there ws e small
+  wide-of ws z at =
+      words-of 64 254 there ws z
       (λ i d h l.
       let w : 2 * (i / 2) + (64 * (i % 2) + d) / 64 ≡ i = omega arith in
       let p : (64 * (i % 2) + d) % 64 ≡ d = omega arith in
@@ -182,7 +193,7 @@ module _ (ws : List ℕ) (long : length ws ≡ 254) where
 
 -- ---- rows with a bit in common
 
-module _ (xs ys : List ℕ) (long-x : length xs ≡ 254) (small-x : Small 64 xs) (a b : ℕ) (ha : a < 127) where
+module _ (xs ys : List ℕ) (z : Sized 64 254 xs) (a b : ℕ) (ha : a < 127) where
   -- the two words at i and j have the bit d in common; so do the low or the high words of the rows
   abbrev shared : ℕ → ℕ → ℕ → Bool
   shared i j d = bit (getD xs i 0) d && bit (getD ys j 0) d
@@ -202,10 +213,10 @@ module _ (xs ys : List ℕ) (long-x : length xs ≡ 254) (small-x : Small 64 xs)
 
   common-lt : common < 2 ^ 64
   unfolding common
-  common-lt = or-lt 64 _ _ (part (2 * a) (2 * b) (omega arith)) (part (2 * a + 1) (2 * b + 1) (omega arith))
+  common-lt = or-lt 64 _ _ (part (2 * a) (2 * b) (omega (arith, z .long))) (part (2 * a + 1) (2 * b + 1) (omega (arith, z .long)))
     where
       part : (i j : ℕ) → i < length xs → bitAnd (getD xs i 0) (getD ys j 0) < 2 ^ 64
-      part i j h = omega (arith, and-le-l (getD xs i 0) (getD ys j 0), small-x i h)
+      part i j h = omega (arith, and-le-l (getD xs i 0) (getD ys j 0), z .small i h)
 
   abbrev Common : Type 0
   Common = (j : ℕ) × (j < 128) × T (rowBit xs a j) × T (rowBit ys b j)
@@ -231,24 +242,18 @@ module _ (xs ys : List ℕ) (long-x : length xs ≡ 254) (small-x : Small 64 xs)
       (λ n. let w = some-bit 64 common common-lt n in from (w .0) (w .1) (either (low (w .0)) (high (w .0)) (true-passes (low (w .0) || high (w .0)) (sym (common-bit (w .0)) ∙ w .2))))
       (λ c e. let w = to (c .0) (c .1) (c .2) (c .3) (decLt (c .0) 64) in false-fails (bit 0 (w .0)) (bit-zero (w .0)) (rw (← e) (rw (common-bit (w .0)) (w .1))))
 
--- ---- what setting a bit and joining rows leaves: 254 words of 64 bits
+-- ---- what setting a bit and joining rows leaves
 
-pub record Sized (ws : List ℕ) : Type 0 where
-  pub long : length ws ≡ 254
-  pub small : Small 64 ws
-
-or-sized : (ws : List ℕ) (i x : ℕ) → i < 254 → x < 2 ^ 64 → Sized ws → Sized (orAt ws i x)
-or-sized ws i x h l z = record { long = length-set ws i (bitOr (getD ws i 0) x) ∙ z .long; small = or-small ws i x (omega (arith, z .long)) 64 l (z .small) }
-
-pub add-sized : (a b : ℕ) (ws : List ℕ) → a < 127 → b < 128 → Sized ws → Sized (addBit a b ws)
+pub add-sized : (a b : ℕ) (ws : List ℕ) → a < 127 → b < 128 → Sized 64 254 ws → Sized 64 254 (addBit a b ws)
 unfolding addBit
-add-sized a b ws h l = or-sized ws (2 * a + b / 64) (2 ^ (b % 64)) (omega arith) (pow-lt {i = b % 64} {j = 64} (omega arith))
+add-sized a b ws h l z = or-sized ws (2 * a + b / 64) (2 ^ (b % 64)) (omega (arith, z .long)) 64 254 (pow-lt {i = b % 64} {j = 64} (omega arith)) z
 
-pub join-sized : (a s : ℕ) (ws : List ℕ) → a < 127 → s < 127 → Sized ws → Sized (joinRow a s ws)
-join-sized a s ws h l z =
-    let y : Sized (joinWord (2 * a) (2 * s) ws) = or-sized ws (2 * a) (getD ws (2 * s) 0) (omega arith) (z .small (2 * s) (omega (arith, z .long))) z in
-    or-sized (joinWord (2 * a) (2 * s) ws) (2 * a + 1) (getD (joinWord (2 * a) (2 * s) ws) (2 * s + 1) 0) (omega arith) (y .small (2 * s + 1) (omega (arith, y .long))) y
+pub join-sized : (a s : ℕ) (ws : List ℕ) → a < 127 → s < 127 → Sized 64 254 ws → Sized 64 254 (joinRow a s ws)
+join-sized a s ws h l z = word (2 * a + 1) (2 * s + 1) (joinWord (2 * a) (2 * s) ws) (omega arith) (omega arith) (word (2 * a) (2 * s) ws (omega arith) (omega arith) z)
+  where
+    word : (i j : ℕ) (ws : List ℕ) → i < 254 → j < 254 → Sized 64 254 ws → Sized 64 254 (joinWord i j ws)
+    word i j ws h l z = or-sized ws i (getD ws j 0) (omega (arith, z .long)) 64 254 (z .small j (omega (arith, z .long))) z
 
-pub wide-sized : (n : ℕ) (f : ℕ → ℕ → Bool) → Sized (wide n f)
+pub wide-sized : (n : ℕ) (f : ℕ → ℕ → Bool) → Sized 64 254 (wide n f)
 unfolding wide
-wide-sized n f = record { long = words-long 64 254 (there n f); small = words-small 64 254 (there n f) }
+wide-sized n f = words-sized 64 254 (there n f)

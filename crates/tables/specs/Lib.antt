@@ -1,2 +1,3 @@
 pub mod View
 pub mod Pack
+pub mod Held

@@ -2,6 +2,7 @@
 -- Assumes nothing.
 use Prim.Native.Nat.{ℕ, _+_, _-_, _≤_}
 use mathlib.Core.Path.{_≡_, refl, sym, ap, _∙_}
+use mathlib.Core.Bool.{Bool, true, false, cond}
 use native.Mathlib.Numerals.{add-one}
 use native.Mathlib.Nat.{le-antisymm}
 use native.Mathlib.Omega.{arith}
@@ -27,3 +28,10 @@ module _ {S : Type 0} (f : ℕ → S → S) (s : S) where
   -- the same from above: the turns below n - 1, and the turn n - 1
   pub upTo-last : (n : ℕ) → (n ≡ 0 → ⊥) → upTo n f s ≡ f (n - 1) (upTo (n - 1) f s)
   upTo-last n h = let e : n ≡ n - 1 + 1 = omega arith in ap (λ (k : ℕ). upTo k f s) e ∙ upTo-more (n - 1)
+
+-- a turn that depends on a test, by the way that was taken
+pub cond-taken : {S : Type 0} (b : Bool) (x y : S) → b ≡ true → x ≡ cond b x y
+cond-taken b x y e = rw e
+
+pub cond-left : {S : Type 0} (b : Bool) (x y : S) → b ≡ false → y ≡ cond b x y
+cond-left b x y e = rw e

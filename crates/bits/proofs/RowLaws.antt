@@ -7,34 +7,18 @@ use mathlib.Core.Bool.{Bool, true, false, _&&_, _||_}
 use mathlib.Core.List.{List}
 use native.Mathlib.Decide.{ℕ-discrete, decLt}
 use native.Mathlib.Omega.{arith}
-use native.Mathlib.Nat.{not-suc-le-zero, le-of-suc-le-suc}
 use lib.Dec.{T, eqb}
 use lib.ListN.{length, getD, set, length-set, replicate, length-replicate}
-use lib.Seq.{ext-getD, getD-set-same, getD-set-other}
+use lib.Seq.{getD-set-same, getD-set-other}
 use lib.Pow.{pow-lt, pow-pos}
 use lib.Bits.{bitAnd, bitOr, or-lt, and-le-l}
-use borrow.Author.Tests.{lt-ltb, eq-eqb, ne-eqb}
-use Rattle.meaning.proofs.Bools.{both, and, either, or-left, or-right, true-passes, false-fails, Decides, decides-as, decides-eq, decides-and, decides-not, decides-same}
+use borrow.Author.Tests.{lt-ltb, le-ltb, eq-eqb, ne-eqb}
+use Rattle.meaning.proofs.Bools.{both, and, either, or-left, or-right, true-passes, false-fails, Decides, decides-as, decides-eq, decides-lt, decides-and, decides-not, decides-same}
+use Rattle.bits.specs.Arrays.{listed}
 use Rattle.bits.specs.Bit.{bit, number}
-use Rattle.bits.specs.Rows.{listed, words, among, orAt, narrow, rowBit, wide, joinWord, joinRow, addBit, meetRow}
+use Rattle.bits.specs.Rows.{words, among, orAt, narrow, rowBit, wide, joinWord, joinRow, addBit, meetRow}
+use Rattle.bits.proofs.ArrayLaws.{length-listed, getD-listed, listed-of}
 use Rattle.bits.proofs.BitLaws.{bit-or, bit-and, bit-zero, bit-pow, fixed, number-lt, bit-number, some-bit}
-
--- ---- listed
-
-pub length-listed : {A : Type 0} (n : ℕ) (f : ℕ → A) → length (listed n f) ≡ n
-unfolding listed
-length-listed zero f = refl
-length-listed (suc n) f = ap suc (length-listed n (λ (i : ℕ). f (suc i)))
-
-pub getD-listed : {A : Type 0} (n : ℕ) (f : ℕ → A) (i : ℕ) (d : A) → i < n → getD (listed n f) i d ≡ f i
-unfolding listed
-getD-listed zero f i d h = absurd (not-suc-le-zero h)
-getD-listed (suc n) f zero d h = refl
-getD-listed (suc n) f (suc i) d h = getD-listed n (λ (i : ℕ). f (suc i)) i d (le-of-suc-le-suc h)
-
-pub listed-of : {A : Type 0} (n : ℕ) (f : ℕ → A) (d : A) (l : List A) → length l ≡ n → ((i : ℕ) → i < n → getD l i d ≡ f i) → l ≡ listed n f
-listed-of n f d l e at =
-    ext-getD d l (listed n f) (e ∙ sym (length-listed n f)) (λ i h. let h′ : i < n = omega arith in at i h′ ∙ sym (getD-listed n f i d h′))
 
 -- ---- words
 
@@ -257,3 +241,21 @@ join-sized a s ws h l z = word (2 * a + 1) (2 * s + 1) (joinWord (2 * a) (2 * s)
 pub wide-sized : (n : ℕ) (f : ℕ → ℕ → Bool) → Sized 64 254 (wide n f)
 unfolding wide
 wide-sized n f = words-sized 64 254 (there n f)
+
+-- a test decides that it passes
+pub decides-itself : (b : Bool) → Decides b (T b)
+decides-itself b = record { sound = λ t. t; complete = λ t. t }
+
+-- a relation between numbers below n is asked there alone
+pub decides-among : (n : ℕ) {f : ℕ → ℕ → Bool} {F : ℕ → ℕ → Type 0} → ((a b : ℕ) → Decides (f a b) (F a b)) → (a b : ℕ) → Decides (among n f a b) ((a < n) × (b < n) × F a b)
+unfolding among
+decides-among n d a b =
+    decides-as (decides-and (decides-lt a n) (decides-and (decides-lt b n) (d a b))) (λ p. (p .0, p .1 .0, p .1 .1)) (λ p. (p .0, (p .1, p .2)))
+
+pub wide-same : (n : ℕ) (f g : ℕ → ℕ → Bool) → ((a b : ℕ) → a < n → b < n → f a b ≡ g a b) → wide n f ≡ wide n g
+wide-same n f g same = wide-of n g (wide n f) (wide-sized n f) (λ a b h l. wide-bit n f a b h l ∙ on a b (decLt a n) (decLt b n))
+  where
+    on : (a b : ℕ) → Dec (a < n) → Dec (b < n) → among n f a b ≡ among n g a b
+    on a b (yes h) (yes l) = unfold among in rw (same a b h l)
+    on a b (yes h) (no l) = unfold among in rw (le-ltb b n (omega arith))
+    on a b (no h) l = unfold among in rw (le-ltb a n (omega arith))

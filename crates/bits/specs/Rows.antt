@@ -1,17 +1,13 @@
 -- Rows of bits as lists of words: each relation on small numbers has one list.
 -- Assumes nothing.
-use Prim.Native.Nat.{ℕ, zero, suc, _+_, _*_, _/_, _%_, _^_}
+use Prim.Native.Nat.{ℕ, _+_, _*_, _/_, _%_, _^_}
 use mathlib.Core.Bool.{Bool, _&&_, not}
-use mathlib.Core.List.{List, [], _∷_}
+use mathlib.Core.List.{List}
 use lib.Dec.{eqb, ltb}
 use lib.ListN.{getD, set}
 use lib.Bits.{bitAnd, bitOr}
+use Rattle.bits.specs.Arrays.{listed}
 use Rattle.bits.specs.Bit.{bit, number}
-
--- f 0, f 1, .., f (n - 1)
-unfoldable pub listed : {A : Type 0} → ℕ → (ℕ → A) → List A
-listed zero f = []
-listed (suc n) f = f 0 ∷ listed n (λ (i : ℕ). f (suc i))
 
 -- n words of w bits, the word i with the digits f i
 unfoldable pub words : ℕ → ℕ → (ℕ → ℕ → Bool) → List ℕ

@@ -11,7 +11,7 @@ use mathlib.Core.List.{List}
 use lib.Dec.{T, eqb, ltb}
 use lib.ListN.{length, getD, replicate}
 use lib.Pow.{pow-lt}
-use borrow.Author.Tests.{lt-ltb, le-ltb, eq-eqb, ne-eqb}
+use borrow.Author.Tests.{le-ltb, ne-eqb}
 use Rattle.meaning.specs.Lists.{In}
 use Rattle.meaning.specs.Tables.{Package}
 use Rattle.meaning.specs.Tables as M
@@ -28,7 +28,7 @@ use Rattle.tables.specs.declared.Tables.{Tables}
 use Rattle.tables.specs.Held.{Held}
 use Rattle.tables.proofs.Views.{Holds, held-pairs}
 use Rattle.bits.specs.Bit.{bit}
-use Rattle.bits.specs.Rows.{orAt, among, narrow}
+use Rattle.bits.specs.Rows.{orAt, among}
 use Rattle.bits.specs.Fold.{upTo}
 use Rattle.bits.proofs.BitLaws.{bit-zero, bit-pow}
 use Rattle.bits.proofs.RowLaws.{Sized, zeros-at, zeros-sized, or-bit, or-sized, narrow-of}
@@ -36,14 +36,6 @@ use Rattle.trust.specs.Closing.{rel, startAt, listAt, joinAt, throughAt}
 use Rattle.trust.specs.Relations.{dominanceRows}
 
 -- ---- the closure step
-
-pub join-taken : (k e : ℕ) (rs : List ℕ) → bit (getD rs e 0) k ≡ true → orAt rs e (getD rs k 0) ≡ joinAt k e rs
-unfolding joinAt rel
-join-taken k e rs t = rw t
-
-pub join-left : (k e : ℕ) (rs : List ℕ) → bit (getD rs e 0) k ≡ false → rs ≡ joinAt k e rs
-unfolding joinAt rel
-join-left k e rs t = rw t
 
 join-sized : (k e : ℕ) (rs : List ℕ) → k < 32 → e < 32 → Sized 32 32 rs → Sized 32 32 (joinAt k e rs)
 unfolding joinAt

@@ -1,12 +1,35 @@
--- The relations of `meaning` as rows of bits: each is one list of words.
+-- The relations of `meaning` as rows of bits, and the domains of the classes: each is one list.
 -- Assumes nothing.
-use mathlib.Core.List.{List}
 use Prim.Native.Nat.{ℕ}
+use mathlib.Core.Bool.{Bool, _&&_}
+use mathlib.Core.List.{List}
 use lib.ListN.{length}
-use Rattle.meaning.specs.Tables.{Package}
-use Rattle.meaning.specs.Tests.{dominated}
-use Rattle.bits.specs.Rows.{narrow}
+use Rattle.meaning.specs.Lists.{anyBelow}
+use Rattle.meaning.specs.Tables.{Package, home}
+use Rattle.meaning.specs.Tests.{dominated, subtype, suspicious}
+use Rattle.bits.specs.Arrays.{listed}
+use Rattle.bits.specs.Rows.{narrow, wide}
 
 -- row e has the bit d where E ► D
 unfoldable pub dominanceRows : Package → List ℕ
 dominanceRows P = narrow (P .domains) (dominated P)
+
+-- the domain of each class; 0 behind the last
+unfoldable pub homeList : Package → List ℕ
+homeList P = listed 127 (home P)
+
+-- row a has the bit b where A <: B
+unfoldable pub subtypeRows : Package → List ℕ
+subtypeRows P = wide (length (P .classes)) (subtype P)
+
+-- row a has the bit b where A and B are suspicious
+unfoldable pub suspicionRows : Package → List ℕ
+suspicionRows P = wide (length (P .classes)) (suspicious P)
+
+-- f holds of b and a supertype of a
+unfoldable pub above : Package → (ℕ → ℕ → Bool) → ℕ → ℕ → Bool
+above P f a b = anyBelow (length (P .classes)) (λ (s : ℕ). subtype P a s && f s b)
+
+-- row a has the bit b where B and a supertype of A are suspicious
+unfoldable pub suspectRows : Package → List ℕ
+suspectRows P = wide (length (P .classes)) (above P (suspicious P))

@@ -1,13 +1,14 @@
 // Trust as rows of bits: who dominates whom, which class is below which, which classes are suspicious.
 ghost use mathlib.Core.Path.{_≡_};
-ghost use mathlib.Core.List.{List};
-ghost use Prim.Native.Nat.{ℕ, _<_, _≤_};
-ghost use lib.ListN.{getD};
+ghost use Prim.Native.Nat.{ℕ, _+_, _*_, _<_, _≤_};
+ghost use lib.ListN.{getD, replicate};
 ghost use Rattle.tables.specs.View.{view, zeroPair};
 ghost use Rattle.tables.specs.Held.{Held};
 ghost use Rattle.bits.specs.Fold.{upTo};
-ghost use Rattle.trust.specs.Relations.{dominanceRows};
-ghost use Rattle.trust.specs.Closing.{startAt, listAt, joinAt, throughAt};
+ghost use Rattle.bits.specs.Arrays.{storeAt};
+ghost use Rattle.trust.specs.Relations.{dominanceRows, homeList, subtypeRows, suspicionRows, suspectRows};
+ghost use Rattle.trust.specs.Closing.{startAt, listAt, throughAt};
+ghost use Rattle.trust.specs.Filling.{superOr, superAt, fillAt, ownAt, apartIn, suspiciousIn, gatherAt};
 
 fn index(x: u8) -> usize
     ensures { λ r. ⌜ r ≡ x ⌝ }
@@ -63,5 +64,144 @@ pub fn dominance(t: tables::Tables) -> [u32; 32]
     for k in 0..nd {
         through(&mut rows, k, nd);
     }
+    rows
+}
+
+// The domain of each class.
+pub fn homes(t: tables::Tables) -> [u8; 127]
+    requires { ⌜ Held t ⌝ }
+    ensures { λ r. ⌜ r ≡ homeList (view t) ⌝ }
+{
+    let cs = t.classes;
+    let n = cs.n;
+    let mut r = [0u8; 127];
+    for c in 0..n {
+        let x = cs.at[c];
+        r[c] = x.domain;
+    }
+    r
+}
+
+// The direct supertype at place j of the class x, whose number is c; c itself where there is none.
+fn super_or(x: tables::Class, j: usize, c: usize) -> u8
+    requires { ⌜ (j < 4) × (c < 127) ⌝ }
+    ensures { λ r. ⌜ r ≡ superOr x j c ⌝ }
+{
+    if j < index(x.k) { x.supers[j] } else { c as u8 }
+}
+
+// The direct supertypes, four places for each class.
+fn supers(cs: tables::Classes) -> [u8; 508]
+    requires { ⌜ cs .n ≤ 127 ⌝ }
+    ensures { λ r. ⌜ r ≡ upTo (4 * cs .n) (storeAt (superAt (cs .at))) (replicate 508 0) ⌝ }
+{
+    let mut r = [0u8; 508];
+    let m = 4 * cs.n;
+    for i in 0..m {
+        r[i] = super_or(cs.at[i / 4], i % 4, i / 4);
+    }
+    r
+}
+
+// Each class has its own bit.
+fn own(rows: &mut [u64; 254], n: usize)
+    requires { ⌜ n ≤ 127 ⌝ }
+    ensures { λ _. ⌜ now (rows .exit) ≡ upTo n ownAt (now (rows .entry)) ⌝ }
+{
+    for a in 0..n {
+        bits::wide_add(rows, a, a);
+    }
+}
+
+// The rows of c's direct supertypes join c's own.
+fn join_supers(supers: &[u8; 508], rows: &mut [u64; 254], c: usize)
+    requires { ⌜ c < 127 ⌝ }
+    requires { ⌜ ((j : ℕ) → j < 4 → getD (now supers) (4 * c + j) 0 ≤ c) ⌝ }
+    ensures { λ _. ⌜ now (rows .exit) ≡ fillAt (now (supers .entry)) c (now (rows .entry)) ⌝ }
+{
+    for j in 0..4 {
+        bits::wide_join(rows, c, index(supers[4 * c + j]));
+    }
+}
+
+// Fills the rows of the classes below a number: those below the last of them first, then its own.
+fn fill(supers: &[u8; 508], rows: &mut [u64; 254], upto: usize)
+    requires { ⌜ upto ≤ 127 ⌝ }
+    requires { ⌜ ((c j : ℕ) → c < upto → j < 4 → getD (now supers) (4 * c + j) 0 ≤ c) ⌝ }
+    ensures { λ _. ⌜ now (rows .exit) ≡ upTo upto (fillAt (now (supers .entry))) (now (rows .entry)) ⌝ }
+{
+    if upto == 0 {
+        return;
+    }
+    fill(supers, rows, upto - 1);
+    join_supers(supers, rows, upto - 1);
+}
+
+// Row a has the bit b exactly where A <: B.
+pub fn supertypes(t: tables::Tables) -> [u64; 254]
+    requires { ⌜ Held t ⌝ }
+    ensures { λ r. ⌜ r ≡ subtypeRows (view t) ⌝ }
+{
+    let cs = t.classes;
+    let n = cs.n;
+    let places = supers(cs);
+    let mut rows = [0u64; 254];
+    own(&mut rows, n);
+    fill(&places, &mut rows, n);
+    rows
+}
+
+// Whether neither of two domains dominates the other.
+fn apart(dom: &[u32; 32], d: usize, e: usize) -> bool
+    requires { ⌜ (d < 32) × (e < 32) ⌝ }
+    ensures { λ r. ⌜ r ≡ apartIn (now (dom .entry)) d e ⌝ }
+{
+    if bits::has(dom, d, e) {
+        return false;
+    }
+    !bits::has(dom, e, d)
+}
+
+// Row a gets the bit of each class that is suspicious to a.
+fn gather(dom: &[u32; 32], homes: &[u8; 127], rows: &mut [u64; 254], a: usize, n: usize)
+    requires { ⌜ (a < 127) × (n ≤ 127) ⌝ }
+    requires { ⌜ ((c : ℕ) → getD (now homes) c 0 < 32) ⌝ }
+    ensures { λ _. ⌜ now (rows .exit) ≡ gatherAt (suspiciousIn (now (dom .entry)) (now (homes .entry))) n a (now (rows .entry)) ⌝ }
+{
+    let d = index(homes[a]);
+    for b in 0..n {
+        if apart(dom, d, index(homes[b])) {
+            bits::wide_add(rows, a, b);
+        }
+    }
+}
+
+// Row a has the bit b exactly where A and B are suspicious.
+pub fn suspicion(t: tables::Tables, dom: &[u32; 32]) -> [u64; 254]
+    requires { ⌜ Held t ⌝ }
+    requires { ⌜ now dom ≡ dominanceRows (view t) ⌝ }
+    ensures { λ r. ⌜ r ≡ suspicionRows (view t) ⌝ }
+{
+    let h = homes(t);
+    let cs = t.classes;
+    let n = cs.n;
+    let mut rows = [0u64; 254];
+    for a in 0..n {
+        gather(dom, &h, &mut rows, a, n);
+    }
+    rows
+}
+
+// Row a has the bit b exactly where B and some supertype of A are suspicious.
+pub fn suspects(t: tables::Tables, suspicion: &[u64; 254]) -> [u64; 254]
+    requires { ⌜ Held t ⌝ }
+    requires { ⌜ now suspicion ≡ suspicionRows (view t) ⌝ }
+    ensures { λ r. ⌜ r ≡ suspectRows (view t) ⌝ }
+{
+    let cs = t.classes;
+    let n = cs.n;
+    let places = supers(cs);
+    let mut rows = *suspicion;
+    fill(&places, &mut rows, n);
     rows
 }

@@ -1,11 +1,10 @@
 -- `trust::through` meets its contract: the loop is the fold of its turn, whose two ways are `joinAt`. Assumes nothing.
-use Rattle.trust.proofs.Closure.{join-taken, join-left}
 use mathlib.Core.Path.{_≡_, sym, _∙_}
 use mathlib.Core.Logic.{⊎-elim}
 use Prim.Native.Nat.{_≤_, _-_}
 use Rattle.bits.specs.Fold.{upTo}
-use Rattle.bits.proofs.FoldLaws.{upTo-none, upTo-turn, upTo-done}
-use Rattle.trust.specs.Closing.{joinAt, throughAt}
+use Rattle.bits.proofs.FoldLaws.{upTo-none, upTo-turn, upTo-done, cond-taken, cond-left}
+use Rattle.trust.specs.Closing.{rel, joinAt, throughAt}
 use borrow.Author.Needs.{needs}
 use Rattle.trust.proofs.through.Statement.{statement}
 use Rattle.trust.proofs.through.Tie as tie
@@ -32,11 +31,12 @@ loop-less : tie.Need-loop-less Inv-loop μ-loop
 loop-less c = search needs
 
 loop-again : tie.Need-loop-again Inv-loop μ-loop
+unfolding joinAt rel
 loop-again c = (
   search needs,
   ⊎-elim
-      (λ w. w .3 ∙ w .2 .ensures ∙ join-taken _ _ _ (sym (c .before .has .ensures) ∙ w .0 .taken))
-      (λ w. w .1 ∙ join-left _ _ _ (sym (c .before .has .ensures) ∙ w .0 .left))
+      (λ w. w .3 ∙ w .2 .ensures ∙ cond-taken _ _ _ (sym (c .before .has .ensures) ∙ w .0 .taken))
+      (λ w. w .1 ∙ cond-left _ _ _ (sym (c .before .has .ensures) ∙ w .0 .left))
       (c .if1 .came)
       ∙ upTo-turn (joinAt _) _ _ (c .before .before .before .before .loop .inv .1),
 )

@@ -1,2 +1,3 @@
 pub mod Pack
 pub mod Views
+pub mod Access

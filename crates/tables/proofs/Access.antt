@@ -9,6 +9,7 @@ use mathlib.Core.List.{List, [], _∷_, _++_, map, map-append}
 use lib.ListN.{length, take, getD, replicate, length-take, length-map}
 use lib.Seq.{take-suc, getD-take}
 use Rattle.tables.specs.Pack.{pad}
+use Rattle.tables.proofs.Pack.{pad-at}
 
 module _ {A B : Type 0} (f : A → B) where
   map-at : (l : List A) (i : ℕ) (d : B) (z : A) → i < length l → getD (map f l) i d ≡ f (getD l i z)
@@ -33,6 +34,10 @@ module _ {A B : Type 0} (f : A → B) where
     -- one more
     pub view-more : (z : A) → n < length l → map f (take (n + 1) l) ≡ map f (take n l) ++ (f (getD l n z) ∷ [])
     view-more z h = rw (add-one, take-suc l n z h, map-append)
+
+-- an element of a packed list is packed
+pub pad-map-at : {A B : Type 0} (f : A → B) (n : ℕ) (z : B) (xs : List A) (i : ℕ) (d : B) (u : A) → i < length xs → getD (pad n z (map f xs)) i d ≡ f (getD xs i u)
+pad-map-at f n z xs i d u h = pad-at z n (map f xs) i d (omega (arith, length-map xs f)) ∙ map-at f xs i d u h
 
 module _ {A : Type 0} (z : A) where
   all-zero : (k i : ℕ) → getD (replicate k z) i z ≡ z

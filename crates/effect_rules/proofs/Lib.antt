@@ -1,0 +1,4 @@
+pub mod Ops
+pub mod Sites
+pub mod Rules
+pub mod Turns

@@ -1,0 +1,134 @@
+-- The turns of the search: an effect of the tables is seen as the package has it, and the second places that are looked at are all
+-- that can break the rule.
+-- Assumes nothing.
+use Prim.Native.Nat.{ℕ, zero, suc, _≤_, _<_}
+use native.Mathlib.Decide.{decLt, ℕ-discrete}
+use native.Mathlib.Nat.{le-refl}
+use native.Mathlib.Numerals.{add-one}
+use native.Mathlib.Omega.{arith}
+use mathlib.Core.Path.{_≡_, refl, sym, ap, _∙_, subst}
+use mathlib.Core.Logic.{_⊎_, inl, inr}
+use mathlib.Core.Bool.{Bool, true, false, cond}
+use mathlib.Core.List.{List, []}
+use lib.Dec.{eqb, ltb}
+use lib.ListN.{length, getD}
+use borrow.Author.Tests.{lt-ltb, le-ltb, eq-eqb, ne-eqb}
+use Rattle.meaning.specs.Tables.{Package, noEffect, noField, noMethod, effectAt, fieldAt, methodAt, paramsOf, callerOf, namedBy}
+use Rattle.meaning.specs.Tests.{breaks30}
+use Rattle.meaning.proofs.Search.{ClearRow, row-none, row-more}
+use Rattle.tables.specs.declared.Effect.{Effect}
+use Rattle.tables.specs.declared.Field.{Field}
+use Rattle.tables.specs.declared.Method.{Method}
+use Rattle.tables.specs.declared.Effects.{Effects}
+use Rattle.tables.specs.declared.Fields.{Fields}
+use Rattle.tables.specs.declared.Methods.{Methods}
+use Rattle.tables.specs.View.{zeroEffect, zeroField, zeroMethod}
+use Rattle.tables.specs.Pack.{pad, packEffect, packField, packMethod, packEffects, packFields, packMethods}
+use Rattle.tables.proofs.Access.{pad-map-at}
+use Rattle.homes.specs.Homes.{Rows}
+use Rattle.effect_rules.specs.declared.Site.{Site}
+use Rattle.effect_rules.specs.Sites.{Seen}
+use Rattle.effect_rules.specs.Search.{EffectRule, breaksOf, secondsOf, placesOf}
+use Rattle.effect_rules.proofs.Sites.{count-is}
+use Rattle.effect_rules.proofs.Rules.{off-30}
+
+-- ---- an effect
+
+-- the tables that the search holds are P's
+pub record Held (homes doms : List ℕ) (effects : Effects) (fields : Fields) (methods : Methods) (P : Package) : Type 0 where
+  pub rows : Rows P homes doms
+  pub the-effects : effects ≡ packEffects (P .effects)
+  pub the-fields : fields ≡ packFields (P .fields)
+  pub the-methods : methods ≡ packMethods (P .methods)
+
+-- what the code would read behind an array
+abbrev unreadMethod : Method
+unreadMethod = record { class = 0; label = 0; stat = 0; slot = 0; result = 0; k = 0; params = [] }
+
+-- effect i with the method m and what has the number x
+abbrev pub siteAt : Effects → Fields → Methods → ℕ → ℕ → ℕ → Site
+siteAt effects fields methods i m x =
+    record {
+      effect = getD (effects .at) i zeroEffect;
+      caller = getD (methods .at) m unreadMethod;
+      field = getD (fields .at) x zeroField;
+      called = getD (methods .at) x unreadMethod;
+    }
+
+module _ {homes doms : List ℕ} {effects : Effects} {fields : Fields} {methods : Methods} {P : Package} (h : Held homes doms effects fields methods P) where
+  pub count : effects .n ≡ length (P .effects)
+  unfolding packEffects
+  count = rw (h .the-effects)
+
+  effect-at : (i : ℕ) → i < length (P .effects) → getD (effects .at) i zeroEffect ≡ packEffect (effectAt P i)
+  unfolding packEffects
+  effect-at i l = rw (h .the-effects) (pad-map-at packEffect 1024 zeroEffect (P .effects) i zeroEffect noEffect l)
+
+  field-at : (x : ℕ) → x < length (P .fields) → getD (fields .at) x zeroField ≡ packField (fieldAt P x)
+  unfolding packFields
+  field-at x l = rw (h .the-fields) (pad-map-at packField 256 zeroField (P .fields) x zeroField noField l)
+
+  method-at : (m : ℕ) → m < length (P .methods) → getD (methods .at) m unreadMethod ≡ packMethod (methodAt P m)
+  unfolding packMethods
+  method-at m l = rw (h .the-methods) (pad-map-at packMethod 256 zeroMethod (P .methods) m unreadMethod noMethod l)
+
+  pub seen-at : (i m x : ℕ) → i < length (P .effects) → m ≡ (getD (effects .at) i zeroEffect) .method → x ≡ (getD (effects .at) i zeroEffect) .number
+      → Seen homes doms (siteAt effects fields methods i m x) P i
+  unfolding callerOf namedBy
+  seen-at i m x l p q =
+      let e = effect-at i l in
+      let u : m ≡ callerOf P i = p ∙ rw e in
+      let v : x ≡ namedBy P i = q ∙ rw e in
+      record {
+        rows = h .rows;
+        declared = l;
+        effect = e;
+        caller = rw u (method-at (callerOf P i) ((h .rows .good .effects i l) .method));
+        field = λ d. rw v (field-at (namedBy P i) d);
+        called = λ d. rw v (method-at (namedBy P i) d);
+      }
+
+-- ---- its second places
+
+-- none of the four before it
+pub rule-last : {rule : ℕ} → EffectRule rule → (rule ≡ 26 → ⊥) → (rule ≡ 27 → ⊥) → (rule ≡ 28 → ⊥) → (rule ≡ 29 → ⊥) → rule ≡ 30
+rule-last {rule} r a b c d = omega arith
+
+-- a place of 30 is a parameter of a call
+pub places-30 : (rule : ℕ) (s : Site) (j : ℕ) → rule ≡ 30 → j < placesOf rule s → (6 ≤ s .effect .op) × (j < s .called .k)
+unfolding placesOf
+places-30 rule s j e h = on (decLt (s .effect .op) 6)
+  where
+    on : Dec (s .effect .op < 6) → (6 ≤ s .effect .op) × (j < s .called .k)
+    on (yes l) = absurd (omega (arith, (rw (eq-eqb rule 30 e, lt-ltb (s .effect .op) 6 l) at h)))
+    on (no n) = let m : 6 ≤ s .effect .op = omega arith in (m, rw (eq-eqb rule 30 e, le-ltb (s .effect .op) 6 m) at h)
+
+-- a row in which nothing passes
+row-false : {test : ℕ → ℕ → Bool} {a : ℕ} → ((b : ℕ) → test a b ≡ false) → (n : ℕ) → ClearRow test a n
+row-false f zero = row-none
+row-false {test} {a} f (suc n) = subst (ClearRow test a) (add-one n) (row-more (row-false f n) (f n))
+
+module _ {homes doms : List ℕ} {s : Site} {P : Package} {i : ℕ} (a : Seen homes doms s P i) (rule : ℕ) where
+  -- all, or none where nothing can pass
+  all-or-none : (placesOf rule s ≡ secondsOf rule P i) ⊎ ((placesOf rule s ≡ 0) × ((j : ℕ) → breaksOf rule P i j ≡ false))
+  unfolding placesOf secondsOf breaksOf
+  all-or-none = on (ℕ-discrete rule 30) (decLt (s .effect .op) 6)
+    where
+      on : Dec (rule ≡ 30) → Dec (s .effect .op < 6) → (placesOf rule s ≡ secondsOf rule P i) ⊎ ((placesOf rule s ≡ 0) × ((j : ℕ) → breaksOf rule P i j ≡ false))
+      on (no n) l = inl (rw (ne-eqb rule 30 n))
+      on (yes e) (yes l) = inr (rw (eq-eqb rule 30 e, lt-ltb (s .effect .op) 6 l), λ j. rw e (sym (off-30 a j l)))
+      on (yes e) (no l) = let m : 6 ≤ s .effect .op = omega arith in inl (rw (eq-eqb rule 30 e, le-ltb (s .effect .op) 6 m) (count-is a m))
+
+  pub places-most : (j : ℕ) → j < placesOf rule s → j < secondsOf rule P i
+  places-most j h = on all-or-none
+    where
+      on : (placesOf rule s ≡ secondsOf rule P i) ⊎ ((placesOf rule s ≡ 0) × ((j : ℕ) → breaksOf rule P i j ≡ false)) → j < secondsOf rule P i
+      on (inl e) = rw e at h
+      on (inr n) = absurd (omega (arith, n .0))
+
+  pub row-all : (j : ℕ) → j ≡ placesOf rule s → ClearRow (breaksOf rule P) i j → ClearRow (breaksOf rule P) i (secondsOf rule P i)
+  row-all j q r = on all-or-none
+    where
+      on : (placesOf rule s ≡ secondsOf rule P i) ⊎ ((placesOf rule s ≡ 0) × ((j : ℕ) → breaksOf rule P i j ≡ false)) → ClearRow (breaksOf rule P) i (secondsOf rule P i)
+      on (inl e) = subst (ClearRow (breaksOf rule P) i) (q ∙ e) r
+      on (inr n) = row-false (n .1) (secondsOf rule P i)

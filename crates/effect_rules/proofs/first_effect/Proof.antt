@@ -1,0 +1,184 @@
+-- `effect_rules::first_effect` meets its contract. The invariants: no effect before i, and no place of effect i before j, breaks the
+-- rule in any package that the tables at hand are of.
+-- Assumes nothing.
+use Prim.Native.Nat.{ℕ, _≤_, _<_, _-_}
+use native.Mathlib.Nat.{le-refl, le-antisymm}
+use native.Mathlib.Omega.{arith}
+use mathlib.Core.Path.{_≡_, refl, sym, ap, _∙_}
+use lib.ListN.{length}
+use borrow.Author.Needs.{needs}
+use Rattle.meaning.specs.Tables.{Package}
+use Rattle.meaning.proofs.Search.{Clear, ClearRow, clear-none, row-none, row-more, clear-more, pair-none, pair-hit}
+use Rattle.tables.specs.declared.Tables.{Tables}
+use Rattle.tables.specs.View.{view}
+use Rattle.tables.specs.Pack.{pack}
+use Rattle.found.specs.Found.{foundOf}
+use Rattle.found.specs.declared.Found.the-variants.{Nothing}
+use Rattle.effect_rules.specs.Sites.{Seen}
+use Rattle.effect_rules.specs.Search.{breaksOf, secondsOf, placesOf, firstEffect}
+use Rattle.effect_rules.proofs.Turns.{Held, siteAt, count, seen-at, places-most, row-all}
+use Rattle.effect_rules.proofs.first_effect.Statement.{statement}
+use Rattle.effect_rules.proofs.first_effect.Tie as tie
+
+abbrev Inv-loop : tie.InvT-loop
+Inv-loop rule homes doms effects fields methods n found₀ i m x s k j₀ found j =
+    (j ≤ k) × (found ≡ Nothing) × ((P : Package) → Held homes doms effects fields methods P → ClearRow (breaksOf rule P) i j)
+
+abbrev μ-loop : tie.MeasureT-loop
+μ-loop rule homes doms effects fields methods n found₀ i m x s k j₀ found j = k - j
+
+abbrev Inv-search : tie.InvT-search
+Inv-search rule homes doms effects fields methods n found₀ i₀ found i =
+    (i ≤ n) × (found ≡ Nothing) × ((P : Package) → Held homes doms effects fields methods P → Clear (secondsOf rule P) (breaksOf rule P) i)
+
+abbrev μ-search : tie.MeasureT-search
+μ-search rule homes doms effects fields methods n found₀ i₀ found i = n - i
+
+-- the tables are those of their view
+held : (c : tie.Start Inv-loop μ-loop Inv-search μ-search) → Held (c .args .homes .now) (c .args .doms .now) (c .args .t .effects) (c .args .t .fields) (c .args .t .methods) (view (c .args .t))
+unfolding pack
+held c =
+    let e = c .pre .1 .0 in
+    record {
+      rows = c .pre .1 .1;
+      the-effects = ap (λ (t : Tables). t .effects) e;
+      the-fields = ap (λ (t : Tables). t .fields) e;
+      the-methods = ap (λ (t : Tables). t .methods) e;
+    }
+
+few : (c : tie.Start Inv-loop μ-loop Inv-search μ-search) → c .args .t .effects .n ≤ 1024
+few c = omega (arith, count (held c), c .pre .1 .1 .good .few-effects)
+
+-- effect i, as any of those packages has it
+seen : (c : tie.After-places Inv-loop μ-loop Inv-search μ-search) (P : Package)
+    → Held (c .before .before .before .before .before .before .before .before .before .before .before .before .args .homes .now) (c .before .before .before .before .before .before .before .before .before .before .before .before .args .doms .now) (c .before .before .before .before .before .before .before .before .before .before .before .before .args .t .effects) (c .before .before .before .before .before .before .before .before .before .before .before .before .args .t .fields) (c .before .before .before .before .before .before .before .before .before .before .before .before .args .t .methods) P
+    → Seen (c .before .before .before .before .before .before .before .before .before .before .before .before .args .homes .now) (c .before .before .before .before .before .before .before .before .before .before .before .before .args .doms .now)
+    (siteAt (c .before .before .before .before .before .before .before .before .before .before .before .before .args .t .effects) (c .before .before .before .before .before .before .before .before .before .before .before .before .args .t .fields) (c .before .before .before .before .before .before .before .before .before .before .before .before .args .t .methods) (c .before .before .before .before .before .before .before .before .search .i) (c .before .before .before .before .before .wide .result) (c .before .before .before .before .wide2 .result))
+    P (c .before .before .before .before .before .before .before .before .search .i)
+seen c P h =
+    seen-at h (c .before .before .before .before .before .before .before .before .search .i) (c .before .before .before .before .before .wide .result) (c .before .before .before .before .wide2 .result) (omega (arith, count h, c .before .before .before .before .before .before .before .search-test .taken))
+    (c .before .before .before .before .before .wide .ensures .0) (c .before .before .before .before .wide2 .ensures .0)
+
+search-holds : tie.Need-search-holds Inv-loop μ-loop Inv-search μ-search
+search-holds c = (search needs, refl, λ P h. clear-none)
+
+mul-e : tie.Need-mul-e Inv-loop μ-loop Inv-search μ-search
+mul-e c = omega (arith, few (c .before .before .before .before .before))
+
+element-copy-out-e : tie.Need-element-copy-out-e Inv-loop μ-loop Inv-search μ-search
+element-copy-out-e c = omega (arith, few (c .before .before .before .before .before))
+
+wide-requires : tie.Need-wide-requires Inv-loop μ-loop Inv-search μ-search
+wide-requires c κs = search needs
+
+wide-requires-2 : tie.Need-wide-requires-2 Inv-loop μ-loop Inv-search μ-search
+wide-requires-2 c κs = search needs
+
+mul-caller : tie.Need-mul-caller Inv-loop μ-loop Inv-search μ-search
+mul-caller c = omega (arith, c .before .wide .ensures)
+
+element-copy-out-caller : tie.Need-element-copy-out-caller Inv-loop μ-loop Inv-search μ-search
+element-copy-out-caller c = c .before .wide .ensures .1
+
+mul-field : tie.Need-mul-field Inv-loop μ-loop Inv-search μ-search
+mul-field c = omega (arith, c .before .wide2 .ensures)
+
+element-copy-out-field : tie.Need-element-copy-out-field Inv-loop μ-loop Inv-search μ-search
+element-copy-out-field c = c .before .wide2 .ensures .1
+
+mul-called : tie.Need-mul-called Inv-loop μ-loop Inv-search μ-search
+mul-called c = omega (arith, c .before .before .wide2 .ensures)
+
+element-copy-out-called : tie.Need-element-copy-out-called Inv-loop μ-loop Inv-search μ-search
+element-copy-out-called c = c .before .before .wide2 .ensures .1
+
+places-requires : tie.Need-places-requires Inv-loop μ-loop Inv-search μ-search
+places-requires c κs = search needs
+
+loop-holds : tie.Need-loop-holds Inv-loop μ-loop Inv-search μ-search
+loop-holds c = (search needs, c .before .before .before .before .before .before .before .before .search .inv .1, λ P h. row-none)
+
+breaks-requires : tie.Need-breaks-requires Inv-loop μ-loop Inv-search μ-search
+breaks-requires c κs =
+    let s = c .before .before .before .before .before .before .before .before .before .before .before .before .before .before in
+    (s .pre .0, ((view (s .args .t), c .before .before .before .before .before .before .before .before .before .before .search .i, seen (c .before .before) (view (s .args .t)) (held s)), omega (arith, c .before .before .places .ensures)))
+
+add-j : tie.Need-add-j Inv-loop μ-loop Inv-search μ-search
+add-j c = omega arith
+
+loop-less : tie.Need-loop-less Inv-loop μ-loop Inv-search μ-search
+loop-less c = omega arith
+
+loop-again : tie.Need-loop-again Inv-loop μ-loop Inv-search μ-search
+loop-again c = (
+  omega arith,
+  c .before .before .before .loop .inv .1,
+  λ P h. row-more (c .before .before .before .loop .inv .2 P h) (sym (c .before .breaks .ensures P (c .before .before .before .before .before .before .before .before .before .before .before .before .search .i) (seen (c .before .before .before .before) P h)) ∙ c .if1 .left),
+)
+
+add-i : tie.Need-add-i Inv-loop μ-loop Inv-search μ-search
+add-i c = omega (arith, few (c .before .before .before .before .before .before .before .before .before .before .before .before .before .before))
+
+search-less : tie.Need-search-less Inv-loop μ-loop Inv-search μ-search
+search-less c = omega arith
+
+search-again : tie.Need-search-again Inv-loop μ-loop Inv-search μ-search
+search-again c = (
+  omega arith,
+  c .before .loop .inv .1,
+  λ P h.
+      clear-more (c .before .before .before .before .before .before .before .before .before .before .search .inv .2 P h) (le-refl _) (le-refl _)
+      (row-all (seen (c .before .before) P h) (c .before .before .before .before .before .before .before .before .before .before .before .before .before .before .args .rule) (c .before .loop .j) (le-antisymm (c .before .loop .inv .0) (c .loop-test .left) ∙ c .before .before .places .ensures) (c .before .loop .inv .2 P h)),
+)
+
+returns : tie.Need-returns Inv-loop μ-loop Inv-search μ-search
+unfolding firstEffect
+returns c =
+    let h = held (c .before .before .before .before .before) in
+    c .before .search .inv .1 ∙ ap foundOf (sym (pair-none (omega (arith, count h)) (omega (arith, count h)) (c .before .search .inv .2 (view (c .before .before .before .before .before .args .t)) h)))
+
+returns-2 : tie.Need-returns-2 Inv-loop μ-loop Inv-search μ-search
+unfolding firstEffect
+returns-2 c =
+    let h = held (c .before .before .before .before .before .before .before .before .before .before .before .before .before .before .before .before) in
+    let P = view (c .before .before .before .before .before .before .before .before .before .before .before .before .before .before .before .before .args .t) in
+    let a = seen (c .before .before .before .before) P h in
+    ap foundOf
+    (sym
+    (pair-hit
+    (a .declared)
+    (places-most a (c .before .before .before .before .before .before .before .before .before .before .before .before .before .before .before .before .args .rule) (c .before .before .before .loop .j) (omega (arith, c .before .before .before .before .places .ensures)))
+    (c .before .before .before .before .before .before .before .before .before .before .before .before .search .inv .2 P h)
+    (c .before .before .before .loop .inv .2 P h)
+    (sym (c .before .breaks .ensures P (c .before .before .before .before .before .before .before .before .before .before .before .before .search .i) a) ∙ c .if1 .taken)))
+
+pub first-effect-spec : {M : Type 1} → statement M
+first-effect-spec =
+    tie.close
+    (tie.spec
+    Inv-loop
+    μ-loop
+    Inv-search
+    μ-search
+    search-holds
+    mul-e
+    element-copy-out-e
+    wide-requires
+    wide-requires-2
+    mul-caller
+    element-copy-out-caller
+    mul-field
+    element-copy-out-field
+    mul-called
+    element-copy-out-called
+    places-requires
+    loop-holds
+    breaks-requires
+    add-j
+    loop-less
+    loop-again
+    add-i
+    search-less
+    search-again
+    returns
+    returns-2)

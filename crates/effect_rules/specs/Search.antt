@@ -1,0 +1,36 @@
+-- The search over effects, one for the five rules: by a rule's number its test and its second places.
+-- Assumes nothing.
+use Prim.Native.Nat.{ℕ, _≤_}
+use mathlib.Core.Bool.{Bool, cond}
+use mathlib.Core.Option.{Option}
+use lib.Dec.{eqb, ltb}
+use lib.ListN.{length}
+use Rattle.meaning.specs.Lists.{Place, firstPlace}
+use Rattle.meaning.specs.Tables.{Package, paramsOf, namedBy}
+use Rattle.meaning.specs.Tests.{breaks26, breaks27, breaks28, breaks29, breaks30}
+use Rattle.effect_rules.specs.declared.Site.{Site}
+
+-- 26 to 30
+pub record EffectRule (rule : ℕ) : Type 0 where
+  pub least : 26 ≤ rule
+  pub most : rule ≤ 30
+
+-- the test of a rule, by its number
+unfoldable pub breaksOf : ℕ → Package → ℕ → ℕ → Bool
+breaksOf rule P i j =
+    cond (eqb rule 26) (breaks26 P i j)
+    (cond (eqb rule 27) (breaks27 P i j)
+    (cond (eqb rule 28) (breaks28 P i j)
+    (cond (eqb rule 29) (breaks29 P i j)
+    (breaks30 P i j))))
+
+-- the second places beside an effect: for 30 the parameters of the method of its number, one for the others
+unfoldable pub secondsOf : ℕ → Package → ℕ → ℕ
+secondsOf rule P i = cond (eqb rule 30) (length (paramsOf P (namedBy P i))) 1
+
+-- those that can break the rule: 30 looks at calls alone
+unfoldable pub placesOf : ℕ → Site → ℕ
+placesOf rule s = cond (eqb rule 30) (cond (ltb (s .effect .op) 6) 0 (s .called .k)) 1
+
+unfoldable pub firstEffect : ℕ → Package → Option Place
+firstEffect rule P = firstPlace (length (P .effects)) (secondsOf rule P) (breaksOf rule P)

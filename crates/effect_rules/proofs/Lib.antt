@@ -2,3 +2,4 @@ pub mod Ops
 pub mod Sites
 pub mod Rules
 pub mod Turns
+pub mod Findings

@@ -9,8 +9,8 @@ use mathlib.Core.Option.{Option, none, some}
 use mathlib.Core.List.{List}
 use lib.ListN.{getD}
 use borrow.Author.Tests.{eq-eqb, ne-eqb}
-use Rattle.meaning.specs.Tables.{Package, home, labelOf, callerOf, siteOf, opOf, namedBy, paramsOf, ownerOf, fieldClass, fieldType, resultOf, typeOrNone}
-use Rattle.meaning.specs.Tests.{dominated, trusts, methodTrusts, mates, keepsFrom, ofResult, granted, isOp, breaks26, breaks27, breaks28, breaks29, breaks30}
+use Rattle.meaning.specs.Tables.{Package, home, labelOf, callerOf, siteOf, opOf, namedBy, ownerOf, resultOf, typeOrNone}
+use Rattle.meaning.specs.Tests.{dominated, trusts, methodTrusts, mates, keepsFrom, ofResult, granted, breaks26, breaks27, breaks28, breaks29, breaks30}
 use Rattle.bits.specs.Bit.{bit}
 use Rattle.homes.specs.Homes.{Rows, trustsBy, keepsBy}
 use Rattle.homes.proofs.Laws.{home-is, home-small, dominated-is, trusts-is, keeps-is}

@@ -2,20 +2,14 @@
 -- Assumes nothing.
 use Prim.Native.Nat.{ℕ, _≤_, _<_}
 use native.Mathlib.Omega.{arith}
-use mathlib.Core.Path.{_≡_, refl, sym, ap, ap₂, _∙_}
+use mathlib.Core.Path.{_≡_, _∙_}
 use mathlib.Core.Logic.{_⊎_, inl, inr}
-use mathlib.Core.Bool.{Bool, true, false}
 use mathlib.Core.List.{List}
-use lib.Dec.{T}
 use lib.ListN.{length, getD}
-use Rattle.meaning.specs.Tables.{Package, fieldAt, methodAt, effectAt, home, ownerOf, labelOf, resultOf, typeOrNone, paramsOf, fieldClass, fieldType, callerOf, siteOf, opOf, namedBy}
-use Rattle.meaning.specs.Tests.{trusts}
+use Rattle.meaning.specs.Tables.{Package, methodAt, ownerOf, labelOf, resultOf, typeOrNone, paramsOf, fieldClass, fieldType, callerOf, siteOf, opOf, namedBy}
 use Rattle.meaning.specs.Good.{Good, GoodMethod, GoodField, GoodEffect}
 use Rattle.meaning.proofs.Lists.{getD-in}
-use Rattle.tables.specs.Pack.{pad, packField, packMethod, packEffect}
 use Rattle.tables.proofs.Access.{pad-zero}
-use Rattle.homes.specs.Homes.{Rows, trustsBy}
-use Rattle.homes.proofs.Laws.{trusts-is}
 use Rattle.effect_rules.specs.declared.Site.{Site}
 use Rattle.effect_rules.specs.Sites.{Seen}
 use Rattle.effect_rules.proofs.Ops.{names-class, names-field, names-method}

@@ -3,27 +3,22 @@
 -- Assumes nothing.
 use Prim.Native.Nat.{ℕ, zero, suc, _≤_, _<_}
 use native.Mathlib.Decide.{decLt, ℕ-discrete}
-use native.Mathlib.Nat.{le-refl}
 use native.Mathlib.Numerals.{add-one}
 use native.Mathlib.Omega.{arith}
-use mathlib.Core.Path.{_≡_, refl, sym, ap, _∙_, subst}
+use mathlib.Core.Path.{_≡_, sym, _∙_, subst}
 use mathlib.Core.Logic.{_⊎_, inl, inr}
-use mathlib.Core.Bool.{Bool, true, false, cond}
+use mathlib.Core.Bool.{Bool, false}
 use mathlib.Core.List.{List, []}
-use lib.Dec.{eqb, ltb}
 use lib.ListN.{length, getD}
 use borrow.Author.Tests.{lt-ltb, le-ltb, eq-eqb, ne-eqb}
-use Rattle.meaning.specs.Tables.{Package, noEffect, noField, noMethod, effectAt, fieldAt, methodAt, paramsOf, callerOf, namedBy}
-use Rattle.meaning.specs.Tests.{breaks30}
+use Rattle.meaning.specs.Tables.{Package, noEffect, noField, noMethod, effectAt, fieldAt, methodAt, callerOf, namedBy}
 use Rattle.meaning.proofs.Search.{ClearRow, row-none, row-more}
-use Rattle.tables.specs.declared.Effect.{Effect}
-use Rattle.tables.specs.declared.Field.{Field}
 use Rattle.tables.specs.declared.Method.{Method}
 use Rattle.tables.specs.declared.Effects.{Effects}
 use Rattle.tables.specs.declared.Fields.{Fields}
 use Rattle.tables.specs.declared.Methods.{Methods}
 use Rattle.tables.specs.View.{zeroEffect, zeroField, zeroMethod}
-use Rattle.tables.specs.Pack.{pad, packEffect, packField, packMethod, packEffects, packFields, packMethods}
+use Rattle.tables.specs.Pack.{packEffect, packField, packMethod, packEffects, packFields, packMethods}
 use Rattle.tables.proofs.Access.{pad-map-at}
 use Rattle.homes.specs.Homes.{Rows}
 use Rattle.effect_rules.specs.declared.Site.{Site}
@@ -108,13 +103,16 @@ row-false : {test : ℕ → ℕ → Bool} {a : ℕ} → ((b : ℕ) → test a b 
 row-false f zero = row-none
 row-false {test} {a} f (suc n) = subst (ClearRow test a) (add-one n) (row-more (row-false f n) (f n))
 
+-- the places that are looked at are all, or none where nothing can pass
+abbrev AllOrNone : ℕ → Site → Package → ℕ → Type 0
+AllOrNone rule s P i = (placesOf rule s ≡ secondsOf rule P i) ⊎ ((placesOf rule s ≡ 0) × ((j : ℕ) → breaksOf rule P i j ≡ false))
+
 module _ {homes doms : List ℕ} {s : Site} {P : Package} {i : ℕ} (a : Seen homes doms s P i) (rule : ℕ) where
-  -- all, or none where nothing can pass
-  all-or-none : (placesOf rule s ≡ secondsOf rule P i) ⊎ ((placesOf rule s ≡ 0) × ((j : ℕ) → breaksOf rule P i j ≡ false))
+  all-or-none : AllOrNone rule s P i
   unfolding placesOf secondsOf breaksOf
   all-or-none = on (ℕ-discrete rule 30) (decLt (s .effect .op) 6)
     where
-      on : Dec (rule ≡ 30) → Dec (s .effect .op < 6) → (placesOf rule s ≡ secondsOf rule P i) ⊎ ((placesOf rule s ≡ 0) × ((j : ℕ) → breaksOf rule P i j ≡ false))
+      on : Dec (rule ≡ 30) → Dec (s .effect .op < 6) → AllOrNone rule s P i
       on (no n) l = inl (rw (ne-eqb rule 30 n))
       on (yes e) (yes l) = inr (rw (eq-eqb rule 30 e, lt-ltb (s .effect .op) 6 l), λ j. rw e (sym (off-30 a j l)))
       on (yes e) (no l) = let m : 6 ≤ s .effect .op = omega arith in inl (rw (eq-eqb rule 30 e, le-ltb (s .effect .op) 6 m) (count-is a m))
@@ -122,13 +120,13 @@ module _ {homes doms : List ℕ} {s : Site} {P : Package} {i : ℕ} (a : Seen ho
   pub places-most : (j : ℕ) → j < placesOf rule s → j < secondsOf rule P i
   places-most j h = on all-or-none
     where
-      on : (placesOf rule s ≡ secondsOf rule P i) ⊎ ((placesOf rule s ≡ 0) × ((j : ℕ) → breaksOf rule P i j ≡ false)) → j < secondsOf rule P i
+      on : AllOrNone rule s P i → j < secondsOf rule P i
       on (inl e) = rw e at h
       on (inr n) = absurd (omega (arith, n .0))
 
   pub row-all : (j : ℕ) → j ≡ placesOf rule s → ClearRow (breaksOf rule P) i j → ClearRow (breaksOf rule P) i (secondsOf rule P i)
   row-all j q r = on all-or-none
     where
-      on : (placesOf rule s ≡ secondsOf rule P i) ⊎ ((placesOf rule s ≡ 0) × ((j : ℕ) → breaksOf rule P i j ≡ false)) → ClearRow (breaksOf rule P) i (secondsOf rule P i)
+      on : AllOrNone rule s P i → ClearRow (breaksOf rule P) i (secondsOf rule P i)
       on (inl e) = subst (ClearRow (breaksOf rule P) i) (q ∙ e) r
       on (inr n) = row-false (n .1) (secondsOf rule P i)

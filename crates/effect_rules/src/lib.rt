@@ -1,7 +1,6 @@
 // The rules over effects, 26 to 30: a test for each, and one search for all. What they mean is `meaning`'s Tests.antt.
 ghost use mathlib.Core.Path.{_≡_};
 ghost use Prim.Native.Nat.{_<_, _≤_};
-ghost use lib.ListN.{length, take};
 ghost use Rattle.meaning.specs.Tests.{breaks26, breaks27, breaks28, breaks29, breaks30};
 ghost use Rattle.tables.specs.View.{view};
 ghost use Rattle.tables.specs.Pack.{pack};
@@ -38,7 +37,7 @@ fn breaks_26(homes: &[u8; 127], doms: &[u32; 32], s: Site) -> bool
     !homes::trusts(homes, doms, e.number, m.class)
 }
 
-// reading a field of B, or calling B.n with return type C: neither C ▷ A nor A ⋈ B; writing a field of B: neither C ▷ B nor A ⋈ B
+// reading a field of B with type C, or calling B.n with return type C: neither C ▷ A nor A ⋈ B; writing one: neither C ▷ B nor A ⋈ B
 fn breaks_27(homes: &[u8; 127], doms: &[u32; 32], s: Site) -> bool
     requires { ⌜ Known (now homes) (now doms) s ⌝ }
     ensures { λ r. ⌜ Judges breaks27 (now (homes .entry)) (now (doms .entry)) s 0 r ⌝ }

@@ -1,22 +1,19 @@
 -- The homes and the rows answer what the package's own definitions say: home, ►, ▷ and ⋈.
 -- Assumes nothing.
-use Prim.Native.Nat.{ℕ, _≤_, _<_}
+use Prim.Native.Nat.{ℕ, _<_}
 use native.Mathlib.Decide.{decLt}
 use native.Mathlib.Omega.{arith}
-use mathlib.Core.Path.{_≡_, sym, ap, ap₂, _∙_}
-use mathlib.Core.Bool.{not}
+use mathlib.Core.Path.{_≡_, ap, _∙_}
 use mathlib.Core.List.{List, [], _∷_, _++_, map, map-append}
-use lib.Dec.{ltb}
 use lib.ListN.{length, getD, set, length-map, List·getD-map, List·getD-eq-default}
 use borrow.Author.Tests.{lt-ltb}
 use Rattle.meaning.specs.Tables.{Package, Class, noClass, home}
 use Rattle.meaning.specs.Tests.{dominated, trusts, mates, keepsFrom}
 use Rattle.meaning.specs.Good.{Good}
-use Rattle.tables.specs.Pack.{pad}
 use Rattle.tables.proofs.Pack.{pad-more}
 use Rattle.tables.proofs.Access.{pad-zero}
 use Rattle.bits.specs.Bit.{bit}
-use Rattle.bits.specs.Rows.{among, narrow}
+use Rattle.bits.specs.Rows.{among}
 use Rattle.bits.proofs.RowLaws.{narrow-bit}
 use Rattle.homes.specs.Homes.{domainOf, homesOf, Small, trustsBy, keepsBy, Rows}
 

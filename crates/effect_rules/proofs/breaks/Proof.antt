@@ -2,7 +2,7 @@
 -- Assumes nothing.
 use mathlib.Core.Path.{_≡_}
 use borrow.Author.Needs.{needs}
-use borrow.Author.Tests.{eq-eqb, ne-eqb}
+use borrow.Author.Tests.{eq-eqb}
 use Rattle.meaning.specs.Tests.{breaks26, breaks27, breaks28, breaks29}
 use Rattle.effect_rules.specs.Search.{breaksOf}
 use Rattle.effect_rules.proofs.Turns.{rule-last, places-30}

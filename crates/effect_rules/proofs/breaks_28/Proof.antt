@@ -13,7 +13,11 @@ returns : tie.Need-returns
 returns c = λ P i a. off-28 a (c .if1 .taken)
 
 trusts-requires : tie.Need-trusts-requires
-trusts-requires c κs = let a = c .before .before .before .before .before .pre .2 in ((called-class-small a (omega arith), site-small a), small (a .rows))
+trusts-requires c κs =
+    let a = c .before .before .before .before .before .pre .2 in
+    let p = called-class-small a (omega arith) in
+    let q = site-small a in
+    ((omega arith, omega arith), small (a .rows))
 
 returns-2 : tie.Need-returns-2
 returns-2 c = λ P i a. ap not (c .trusts .ensures) ∙ on-28 a (c .before .if1 .left)

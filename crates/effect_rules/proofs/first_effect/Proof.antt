@@ -1,11 +1,10 @@
 -- `effect_rules::first_effect` meets its contract. The invariants: no effect before i, and no place of effect i before j, breaks the
 -- rule in any package that the tables at hand are of.
 -- Assumes nothing.
-use Prim.Native.Nat.{ℕ, _≤_, _<_, _-_}
+use Prim.Native.Nat.{_≤_, _-_}
 use native.Mathlib.Nat.{le-refl, le-antisymm}
 use native.Mathlib.Omega.{arith}
 use mathlib.Core.Path.{_≡_, refl, sym, ap, _∙_}
-use lib.ListN.{length}
 use borrow.Author.Needs.{needs}
 use Rattle.meaning.specs.Tables.{Package}
 use Rattle.meaning.proofs.Search.{Clear, ClearRow, clear-none, row-none, row-more, clear-more, pair-none, pair-hit}
@@ -15,7 +14,7 @@ use Rattle.tables.specs.Pack.{pack}
 use Rattle.found.specs.Found.{foundOf}
 use Rattle.found.specs.declared.Found.the-variants.{Nothing}
 use Rattle.effect_rules.specs.Sites.{Seen}
-use Rattle.effect_rules.specs.Search.{breaksOf, secondsOf, placesOf, firstEffect}
+use Rattle.effect_rules.specs.Search.{breaksOf, secondsOf, firstEffect}
 use Rattle.effect_rules.proofs.Turns.{Held, siteAt, count, seen-at, places-most, row-all}
 use Rattle.effect_rules.proofs.first_effect.Statement.{statement}
 use Rattle.effect_rules.proofs.first_effect.Tie as tie

@@ -19,7 +19,9 @@ home-requires-2 c κs = search needs
 has-requires : tie.Need-has-requires
 has-requires c κs =
     let s = c .before .before in
-    (omega (arith, c .before .home .ensures, s .pre .1 (s .args .b)), omega (arith, c .home2 .ensures, s .pre .1 (s .args .a)))
+    let p = s .pre .1 (s .args .b) in
+    let q = s .pre .1 (s .args .a) in
+    (omega (arith, c .before .home .ensures), omega (arith, c .home2 .ensures))
 
 returns : tie.Need-returns
 unfolding trustsBy

@@ -1,0 +1,7 @@
+pub mod Steps
+pub mod Params
+pub mod Laws
+pub mod Filled
+pub mod Visiting
+pub mod Judged
+pub mod Named

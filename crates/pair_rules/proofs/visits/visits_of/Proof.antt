@@ -1,0 +1,93 @@
+-- `pair_rules::visits_of` meets its contract. Each place below the loop's number has its start and its next.
+-- Assumes nothing.
+use Rattle.pair_rules.proofs.Visiting.{start-most}
+use mathlib.Core.Path.{_≡_, _∙_}
+use mathlib.Core.List.{List}
+use Prim.Native.Nat.{ℕ, _≤_, _-_, _+_}
+use native.Mathlib.Omega.{arith}
+use lib.ListN.{length, getD, length-set}
+use Rattle.pair_rules.specs.Visits.{FirstFrom, StartOf}
+use Rattle.pair_rules.proofs.Filled.{Filled, filled-none, filled-more}
+use borrow.Author.Needs.{needs}
+use Rattle.pair_rules.proofs.visits.visits_of.Statement.{statement}
+use Rattle.pair_rules.proofs.visits.visits_of.Tie as tie
+
+abbrev nextOf : List ℕ → ℕ → ℕ → ℕ → Type 0
+nextOf keys n i r = FirstFrom keys n (i + 1) (getD keys i 0) r
+
+abbrev Inv-loop : tie.InvT-loop
+Inv-loop keys n starts₀ nexts₀ a₀ starts nexts a = (a ≤ n) × (length starts ≡ 256) × (length nexts ≡ 256) × Filled (StartOf keys n) a starts × Filled (nextOf keys n) a nexts
+
+abbrev μ-loop : tie.MeasureT-loop
+μ-loop keys n starts₀ nexts₀ a₀ starts nexts a = n - a
+
+loop-holds : tie.Need-loop-holds Inv-loop μ-loop
+loop-holds c = (omega arith, search needs, search needs, filled-none _ _, filled-none _ _)
+
+start-of-requires : tie.Need-start-of-requires Inv-loop μ-loop
+start-of-requires c κs = search needs
+
+cast-starts : tie.Need-cast-starts Inv-loop μ-loop
+cast-starts c = record { fits = omega (arith, start-most (c .start-of .ensures)) }
+
+mul-starts : tie.Need-mul-starts Inv-loop μ-loop
+mul-starts c = search needs
+
+array-write-starts : tie.Need-array-write-starts Inv-loop μ-loop
+array-write-starts c = search needs
+
+add-first-from : tie.Need-add-first-from Inv-loop μ-loop
+add-first-from c = search needs
+
+mul-first-from : tie.Need-mul-first-from Inv-loop μ-loop
+mul-first-from c = search needs
+
+element-copy-out-first-from : tie.Need-element-copy-out-first-from Inv-loop μ-loop
+element-copy-out-first-from c = search needs
+
+first-from-requires : tie.Need-first-from-requires Inv-loop μ-loop
+first-from-requires c κs = search needs
+
+cast-nexts : tie.Need-cast-nexts Inv-loop μ-loop
+cast-nexts c = record { fits = omega (arith, c .first-from .ensures .most) }
+
+mul-nexts : tie.Need-mul-nexts Inv-loop μ-loop
+mul-nexts c = search needs
+
+array-write-nexts : tie.Need-array-write-nexts Inv-loop μ-loop
+array-write-nexts c = search needs
+
+add-a : tie.Need-add-a Inv-loop μ-loop
+add-a c = search needs
+
+loop-less : tie.Need-loop-less Inv-loop μ-loop
+loop-less c = search needs
+
+loop-again : tie.Need-loop-again Inv-loop μ-loop
+loop-again c = (omega arith, length-set (c .before .before .before .before .loop .starts) (c .before .before .before .before .loop .a) (c .before .before .start-of .result) ∙ c .before .before .before .before .loop .inv .1, length-set (c .before .before .before .before .loop .nexts) (c .before .before .before .before .loop .a) (c .first-from .result) ∙ c .before .before .before .before .loop .inv .2, filled-more (StartOf (c .before .before .before .before .before .args .keys .now) (c .before .before .before .before .before .args .n)) (c .before .before .before .before .loop .a) (c .before .before .start-of .result) (c .before .before .before .before .loop .starts) (omega arith) (c .before .before .start-of .ensures) (c .before .before .before .before .loop .inv .3), filled-more (nextOf (c .before .before .before .before .before .args .keys .now) (c .before .before .before .before .before .args .n)) (c .before .before .before .before .loop .a) (c .first-from .result) (c .before .before .before .before .loop .nexts) (omega arith) (c .first-from .ensures) (c .before .before .before .before .loop .inv .4))
+
+returns : tie.Need-returns Inv-loop μ-loop
+returns c = record { start = λ a h. c .before .loop .inv .3 .at a (omega arith); next = λ a h. c .before .loop .inv .4 .at a (omega arith) }
+
+pub visits-of-spec : {M : Type 1} → statement M
+visits-of-spec =
+    tie.close
+    (tie.spec
+    Inv-loop
+    μ-loop
+    loop-holds
+    start-of-requires
+    cast-starts
+    mul-starts
+    array-write-starts
+    add-first-from
+    mul-first-from
+    element-copy-out-first-from
+    first-from-requires
+    cast-nexts
+    mul-nexts
+    array-write-nexts
+    add-a
+    loop-less
+    loop-again
+    returns)

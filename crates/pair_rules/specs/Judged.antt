@@ -1,0 +1,45 @@
+-- What the rules of the tables find: `meaning`'s findings, by the number of the rule.
+-- Assumes nothing.
+use Prim.Native.Nat.{ℕ, _<_}
+use mathlib.Core.Path.{_≡_}
+use mathlib.Core.Bool.{Bool, _&&_, not, cond}
+use mathlib.Core.Option.{Option}
+use mathlib.Core.List.{List, [], _∷_}
+use lib.Dec.{eqb}
+use lib.ListN.{length, getD}
+use Rattle.meaning.specs.Lists.{Place, firstPlace}
+use Rattle.meaning.specs.Tables.{Package}
+use Rattle.meaning.specs.Check.{Finding}
+use Rattle.tables.specs.declared.Method.{Method}
+use Rattle.pair_rules.specs.Tests.{breaksOf, blank}
+use Rattle.pair_rules.specs.Visits.{Visited}
+
+-- the rules of the tables in 01's order
+abbrev pub tableNumbers : List ℕ
+tableNumbers = 10 ∷ 11 ∷ 12 ∷ 21 ∷ 22 ∷ 23 ∷ 24 ∷ 25 ∷ []
+
+-- how many numbers a rule is asked of: the domains, the classes, or the methods
+unfoldable pub sizeBy : ℕ → ℕ → ℕ → ℕ → ℕ
+sizeBy rule domains classes methods = cond (eqb rule 10) domains (cond (eqb rule 21) classes (cond (eqb rule 22) classes methods))
+
+unfoldable pub sizeOf : ℕ → Package → ℕ
+unfolding sizeBy
+sizeOf rule P = sizeBy rule (P .domains) (length (P .classes)) (length (P .methods))
+
+-- the first place at which it is broken
+unfoldable pub foundBy : ℕ → Package → Option Place
+foundBy rule P = firstPlace (sizeOf rule P) (λ _. sizeOf rule P) (breaksOf rule P)
+
+unfoldable pub findingBy : Package → ℕ → Finding
+unfolding foundBy
+findingBy P rule = record { number = rule; found = foundBy rule P }
+
+-- the rules of methods
+unfoldable pub ofMethods : ℕ → Bool
+ofMethods rule = not (eqb rule 10) && (not (eqb rule 21) && not (eqb rule 22))
+
+-- the visits of the methods' slots
+pub record BySlot (ms : List Method) (n : ℕ) (starts nexts : List ℕ) : Type 0 where
+  pub keys : List ℕ
+  pub slots : (m : ℕ) → m < n → getD keys m 0 ≡ getD ms m blank .slot
+  pub visited : Visited keys n starts nexts

@@ -1,0 +1,4 @@
+pub mod Tests
+pub mod Visits
+pub mod Rows
+pub mod Judged

@@ -1,0 +1,110 @@
+// The first broken rule of the tables, at its first place.
+use crate::visits::Visits;
+use found::Answer;
+use found::Found;
+use tables::Tables;
+ghost use mathlib.Core.Path.{_≡_};
+ghost use Rattle.found.specs.Found.{foundOf, answerOf};
+ghost use Rattle.meaning.specs.Check.{firstFound, tableFindings};
+ghost use Rattle.tables.specs.View.{view};
+ghost use Rattle.tables.specs.Held.{Held};
+ghost use Rattle.pair_rules.specs.Rows.{Known};
+ghost use Rattle.pair_rules.specs.Judged.{sizeBy, foundBy, ofMethods, BySlot};
+
+const TABLE_RULES: [u8; 8] = [10, 11, 12, 21, 22, 23, 24, 25];
+
+fn size_of(rule: u8, domains: usize, classes: usize, methods: usize) -> usize
+    ensures { λ r. ⌜ r ≡ sizeBy rule domains classes methods ⌝ }
+{
+    if rule == 10 {
+        return domains;
+    }
+    if rule == 21 {
+        return classes;
+    }
+    if rule == 22 {
+        return classes;
+    }
+    methods
+}
+
+fn of_methods(rule: u8) -> bool
+    ensures { λ r. ⌜ r ≡ ofMethods rule ⌝ }
+{
+    if rule == 10 {
+        return false;
+    }
+    if rule == 21 {
+        return false;
+    }
+    rule != 22
+}
+
+fn find(
+    rule: u8,
+    t: Tables,
+    chains: Visits,
+    homes: &[u8; 127],
+    doms: &[u32; 32],
+    supers: &[u64; 254],
+    apart: &[u64; 254],
+    above: &[u64; 254],
+) -> Found
+    requires { ⌜ Held t ⌝ }
+    requires { ⌜ Known (view t) (now homes) (now doms) (now supers) (now apart) (now above) ⌝ }
+    requires { ⌜ BySlot (t .methods .at) (t .methods .n) (chains .starts) (chains .nexts) ⌝ }
+    ensures { λ r. ⌜ r ≡ foundOf (foundBy rule (view t)) ⌝ }
+{
+    let methods = t.methods;
+    let classes = t.classes;
+    let n = size_of(rule, t.domains, classes.n, methods.n);
+    if of_methods(rule) {
+        return crate::search::first_pair(
+            rule,
+            n,
+            chains,
+            methods,
+            homes,
+            doms,
+            supers,
+            apart,
+            above,
+        );
+    }
+    let keys = crate::visits::plain();
+    let all = crate::visits::visits_of(&keys, n);
+    crate::search::first_pair(rule, n, all, methods, homes, doms, supers, apart, above)
+}
+
+pub fn table_rules(
+    t: Tables,
+    homes: &[u8; 127],
+    doms: &[u32; 32],
+    supers: &[u64; 254],
+    apart: &[u64; 254],
+    above: &[u64; 254],
+) -> Answer
+    requires { ⌜ Held t ⌝ }
+    requires { ⌜ Known (view t) (now homes) (now doms) (now supers) (now apart) (now above) ⌝ }
+    ensures { λ r. ⌜ r ≡ answerOf (firstFound (tableFindings (view t))) ⌝ }
+{
+    let methods = t.methods;
+    let n = methods.n;
+    let keys = crate::visits::slots(methods);
+    let chains = crate::visits::visits_of(&keys, n);
+    for i in 0..8 {
+        let rule = TABLE_RULES[i];
+        if let Found::At(a, b) = find(rule, t, chains, homes, doms, supers, apart, above) {
+            return Answer {
+                number: rule,
+                first: a as u16,
+                second: b as u16,
+            };
+        }
+    }
+    Answer {
+        number: 0,
+        first: 0,
+        second: 0,
+    }
+}

@@ -1,0 +1,34 @@
+// The test of a rule by its number.
+use tables::Method;
+ghost use mathlib.Core.Path.{_≡_};
+ghost use Rattle.homes.specs.Homes.{Small};
+ghost use Rattle.pair_rules.specs.Rows.{Asks};
+ghost use Rattle.pair_rules.specs.Tests.{testOf};
+
+pub(crate) fn breaks(
+    rule: u8,
+    homes: &[u8; 127],
+    doms: &[u32; 32],
+    supers: &[u64; 254],
+    apart: &[u64; 254],
+    above: &[u64; 254],
+    a: usize,
+    b: usize,
+    x: Method,
+    y: Method,
+) -> bool
+    requires { ⌜ Small (now homes) ⌝ }
+    requires { ⌜ Asks rule a b x y ⌝ }
+    ensures { λ r. ⌜ r ≡ testOf rule (now (homes .entry)) (now (doms .entry)) (now (supers .entry)) (now (apart .entry)) (now (above .entry)) a b x y ⌝ }
+{
+    match rule {
+        10 => crate::tests::breaks_10(doms, a, b),
+        11 => crate::tests::breaks_11(a, b, x, y),
+        12 => crate::tests::breaks_12(a, b, x, y),
+        21 => crate::tests::breaks_21(homes, doms, supers, a, b),
+        22 => crate::tests::breaks_22(supers, apart, above, a, b),
+        23 => crate::tests::breaks_23(doms, supers, x, y),
+        24 => crate::tests::breaks_24(homes, doms, supers, x, y),
+        _ => crate::tests::breaks_25(homes, doms, supers, x, y),
+    }
+}

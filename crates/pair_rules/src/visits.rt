@@ -1,0 +1,73 @@
+// Which second places a search looks at beside a first one: those of the same key, in rising order. A pair of other keys breaks no rule.
+ghost use mathlib.Core.Path.{_≡_};
+ghost use Prim.Native.Nat.{ℕ, _<_, _≤_};
+ghost use lib.ListN.{getD, replicate};
+ghost use Rattle.pair_rules.specs.Tests.{blank};
+ghost use Rattle.pair_rules.specs.Visits.{FirstFrom, StartOf, Visited};
+
+// Where the row of each place starts, and where a row goes on from each place.
+pub(crate) struct Visits {
+    pub starts: [u16; 256],
+    pub nexts: [u16; 256],
+}
+
+// The first place from `from` on whose key is k, or n.
+fn first_from(keys: &[u16; 256], n: usize, from: usize, k: u16) -> usize
+    requires { ⌜ (from ≤ n) × (n ≤ 256) ⌝ }
+    ensures { λ r. ⌜ FirstFrom (now (keys .entry)) n from k r ⌝ }
+{
+    let mut i = from;
+    while i < n {
+        if keys[i] == k {
+            return i;
+        }
+        i += 1;
+    }
+    n
+}
+
+// Of the key 0 there is nothing to look at.
+fn start_of(keys: &[u16; 256], n: usize, a: usize) -> usize
+    requires { ⌜ (a < n) × (n ≤ 256) ⌝ }
+    ensures { λ r. ⌜ StartOf (now (keys .entry)) n a r ⌝ }
+{
+    let k = keys[a];
+    if k == 0 {
+        return n;
+    }
+    first_from(keys, n, 0, k)
+}
+
+pub(crate) fn visits_of(keys: &[u16; 256], n: usize) -> Visits
+    requires { ⌜ n ≤ 256 ⌝ }
+    ensures { λ r. ⌜ Visited (now (keys .entry)) n (r .starts) (r .nexts) ⌝ }
+{
+    let mut starts = [0u16; 256];
+    let mut nexts = [0u16; 256];
+    for a in 0..n {
+        starts[a] = start_of(keys, n, a) as u16;
+        nexts[a] = first_from(keys, n, a + 1, keys[a]) as u16;
+    }
+    Visits { starts, nexts }
+}
+
+// Every place has the same key: a search looks at all pairs.
+pub(crate) fn plain() -> [u16; 256]
+    ensures { λ r. ⌜ r ≡ replicate 256 1 ⌝ }
+{
+    [1u16; 256]
+}
+
+// A method's key is its slot, which is 0 for a static one.
+pub(crate) fn slots(methods: tables::Methods) -> [u16; 256]
+    requires { ⌜ methods .n ≤ 256 ⌝ }
+    ensures { λ r. ⌜ ((m : ℕ) → m < methods .n → getD r m 0 ≡ getD (methods .at) m blank .slot) ⌝ }
+{
+    let mut keys = [0u16; 256];
+    let n = methods.n;
+    for m in 0..n {
+        let x = methods.at[m];
+        keys[m] = x.slot;
+    }
+    keys
+}

@@ -1,6 +1,7 @@
 pub mod Cut
 pub mod Examples
 pub mod Order
+pub mod Places
 pub mod Bools
 pub mod Lists
 pub mod Search

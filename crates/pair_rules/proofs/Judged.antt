@@ -26,17 +26,24 @@ use Rattle.tables.specs.Pack.{packMethod}
 use Rattle.tables.specs.Held.{Held}
 use Rattle.tables.proofs.Pack.{pad-at}
 use Rattle.tables.proofs.Views.{held-classes, held-methods}
+use Rattle.found.specs.declared.Found.the-variants.{At}
 use Rattle.found.specs.Found.{foundOf}
+use Rattle.found.proofs.Named.{byNumber, places}
 use Rattle.pair_rules.specs.Tests.{blank, testOf, byOf, breaksOf, oneSlotBy, differBy, overridesBy, by11, by12, by23, by24, by25}
 use Rattle.pair_rules.specs.Visits.{FirstFrom, StartOf, Visited, Covers}
 use Rattle.pair_rules.specs.Rows.{Known, Fits, Asks, Searches}
-use Rattle.pair_rules.specs.Judged.{tableNumbers, sizeBy, sizeOf, foundBy, findingBy, ofMethods, BySlot}
+use Rattle.pair_rules.specs.Judged.{tableNumbers, sizeBy, sizeOf, foundBy, ofMethods, BySlot}
 use Rattle.pair_rules.proofs.Laws.{law10, law11, law12, law21, law22, law23, law24, law25}
 
 -- the findings, rule by rule
-pub table-findings : (P : Package) → tableFindings P ≡ map (findingBy P) tableNumbers
-unfolding tableFindings findingBy sizeOf breaksOf
+pub table-findings : (P : Package) → tableFindings P ≡ map (byNumber (λ (r : ℕ). foundBy r P)) tableNumbers
+unfolding tableFindings foundBy sizeOf breaksOf
 table-findings P = refl
+
+-- the places that are found are numbers of the rule
+pub found-places : (P : Package) (r a b : ℕ) → foundOf (foundBy r P) ≡ At a b → (a < sizeOf r P) × (b < sizeOf r P)
+unfolding foundBy
+found-places P r a b e = places (sizeOf r P) (λ _. sizeOf r P) (breaksOf r P) a b e
 
 -- ---- two tests that agree on all places find the same
 

@@ -4,4 +4,3 @@ pub mod Laws
 pub mod Filled
 pub mod Visiting
 pub mod Judged
-pub mod Named

@@ -9,7 +9,6 @@ use lib.Dec.{eqb}
 use lib.ListN.{length, getD}
 use Rattle.meaning.specs.Lists.{Place, firstPlace}
 use Rattle.meaning.specs.Tables.{Package}
-use Rattle.meaning.specs.Check.{Finding}
 use Rattle.tables.specs.declared.Method.{Method}
 use Rattle.pair_rules.specs.Tests.{breaksOf, blank}
 use Rattle.pair_rules.specs.Visits.{Visited}
@@ -29,10 +28,6 @@ sizeOf rule P = sizeBy rule (P .domains) (length (P .classes)) (length (P .metho
 -- the first place at which it is broken
 unfoldable pub foundBy : ℕ → Package → Option Place
 foundBy rule P = firstPlace (sizeOf rule P) (λ _. sizeOf rule P) (breaksOf rule P)
-
-unfoldable pub findingBy : Package → ℕ → Finding
-unfolding foundBy
-findingBy P rule = record { number = rule; found = foundBy rule P }
 
 -- the rules of methods
 unfoldable pub ofMethods : ℕ → Bool

@@ -1,21 +1,22 @@
 -- `pair_rules::table_rules` meets its contract. The rules that are left name the same answer as all of them.
 -- Assumes nothing.
 use mathlib.Core.Path.{sym, ap, _∙_}
-use Prim.Native.Nat.{_≤_, _-_}
+use Prim.Native.Nat.{ℕ, _≤_, _-_}
 use native.Mathlib.Omega.{arith}
 use Rattle.tables.specs.View.{view}
 use Rattle.tables.proofs.Views.{held-methods}
 use Rattle.found.specs.Found.{answerOf}
-use Rattle.pair_rules.specs.Judged.{BySlot, tableNumbers}
+use Rattle.pair_rules.specs.Judged.{BySlot, foundBy, tableNumbers}
+use Rattle.meaning.specs.Check.{firstFound}
 use lib.ListN.{getD}
-use Rattle.pair_rules.proofs.Judged.{few}
-use Rattle.pair_rules.proofs.Named.{Left, left-all, left-more, left-hit, left-done, places}
+use Rattle.pair_rules.proofs.Judged.{few, table-findings, found-places}
+use Rattle.found.proofs.Named.{Left, left-all, left-more, left-hit, left-done}
 use borrow.Author.Needs.{needs}
 use Rattle.pair_rules.proofs.judge.table_rules.Statement.{statement}
 use Rattle.pair_rules.proofs.judge.table_rules.Tie as tie
 
 abbrev Inv-loop : tie.InvT-loop
-Inv-loop t homes doms supers apart above n chains i₀ i = (i ≤ 8) × Left (view t) i × BySlot (t .methods .at) (t .methods .n) (chains .starts) (chains .nexts)
+Inv-loop t homes doms supers apart above n chains i₀ i = (i ≤ 8) × Left (λ (r : ℕ). foundBy r (view t)) tableNumbers i × BySlot (t .methods .at) (t .methods .n) (chains .starts) (chains .nexts)
 
 abbrev μ-loop : tie.MeasureT-loop
 μ-loop t homes doms supers apart above n chains i₀ i = 8 - i
@@ -27,7 +28,7 @@ visits-of-requires : tie.Need-visits-of-requires Inv-loop μ-loop
 visits-of-requires c κs = omega (arith, held-methods (c .before .before .before .args .t) (c .before .before .before .pre .0) .count, c .before .before .before .pre .0 .good .few-methods)
 
 loop-holds : tie.Need-loop-holds Inv-loop μ-loop
-loop-holds c = (omega arith, left-all _, record { keys = c .before .before .slots .result; slots = c .before .before .slots .ensures; visited = c .visits-of .ensures })
+loop-holds c = (omega arith, left-all _ _, record { keys = c .before .before .slots .result; slots = c .before .before .slots .ensures; visited = c .visits-of .ensures })
 
 array-read-rule : tie.Need-array-read-rule Inv-loop μ-loop
 array-read-rule c = omega arith
@@ -39,13 +40,13 @@ enum-known-a : tie.Need-enum-known-a Inv-loop μ-loop
 enum-known-a c = search needs
 
 cast-t23 : tie.Need-cast-t23 Inv-loop μ-loop
-cast-t23 c = record { fits = omega (arith, places (view (c .before .before .before .before .before .before .before .before .before .before .args .t)) (getD tableNumbers (c .before .before .before .before .before .loop .i) 0) _ _ (sym (c .before .before .before .find .ensures) ∙ c .before .a .given .1) .0, few (c .before .before .before .before .before .before .before .before .before .before .args .t) (c .before .before .before .before .before .before .before .before .before .before .pre .0) (c .before .before .before .before .before .before .before .before .before .before .pre .1) (getD tableNumbers (c .before .before .before .before .before .loop .i) 0)) }
+cast-t23 c = record { fits = omega (arith, found-places (view (c .before .before .before .before .before .before .before .before .before .before .args .t)) (getD tableNumbers (c .before .before .before .before .before .loop .i) 0) _ _ (sym (c .before .before .before .find .ensures) ∙ c .before .a .given .1) .0, few (c .before .before .before .before .before .before .before .before .before .before .args .t) (c .before .before .before .before .before .before .before .before .before .before .pre .0) (c .before .before .before .before .before .before .before .before .before .before .pre .1) (getD tableNumbers (c .before .before .before .before .before .loop .i) 0)) }
 
 cast-t24 : tie.Need-cast-t24 Inv-loop μ-loop
-cast-t24 c = record { fits = omega (arith, places (view (c .before .before .before .before .before .before .before .before .before .before .args .t)) (getD tableNumbers (c .before .before .before .before .before .loop .i) 0) _ _ (sym (c .before .before .before .find .ensures) ∙ c .before .a .given .1) .1, few (c .before .before .before .before .before .before .before .before .before .before .args .t) (c .before .before .before .before .before .before .before .before .before .before .pre .0) (c .before .before .before .before .before .before .before .before .before .before .pre .1) (getD tableNumbers (c .before .before .before .before .before .loop .i) 0)) }
+cast-t24 c = record { fits = omega (arith, found-places (view (c .before .before .before .before .before .before .before .before .before .before .args .t)) (getD tableNumbers (c .before .before .before .before .before .loop .i) 0) _ _ (sym (c .before .before .before .find .ensures) ∙ c .before .a .given .1) .1, few (c .before .before .before .before .before .before .before .before .before .before .args .t) (c .before .before .before .before .before .before .before .before .before .before .pre .0) (c .before .before .before .before .before .before .before .before .before .before .pre .1) (getD tableNumbers (c .before .before .before .before .before .loop .i) 0)) }
 
 returns : tie.Need-returns Inv-loop μ-loop
-returns c = ap answerOf (sym (left-hit (view (c .before .before .before .before .before .before .before .before .before .before .args .t)) _ _ _ (c .before .before .before .before .loop-test .taken) (sym (c .before .before .before .find .ensures) ∙ c .before .a .given .1) (c .before .before .before .before .before .loop .inv .1)))
+returns c = ap answerOf (sym (ap firstFound (table-findings (view (c .before .before .before .before .before .before .before .before .before .before .args .t))) ∙ left-hit _ _ _ (c .before .before .before .before .loop-test .taken) _ _ (sym (c .before .before .before .find .ensures) ∙ c .before .a .given .1) (c .before .before .before .before .before .loop .inv .1)))
 
 enum-told : tie.Need-enum-told Inv-loop μ-loop
 enum-told c = search needs
@@ -57,10 +58,10 @@ loop-less : tie.Need-loop-less Inv-loop μ-loop
 loop-less c = search needs
 
 loop-again : tie.Need-loop-again Inv-loop μ-loop
-loop-again c = (omega arith, left-more _ _ (c .before .before .before .loop-test .taken) (sym (c .before .before .find .ensures) ∙ c .enum-told .given .1) (c .before .before .before .before .loop .inv .1), c .before .before .before .before .loop .inv .2)
+loop-again c = (omega arith, left-more _ _ _ (c .before .before .before .loop-test .taken) (sym (c .before .before .find .ensures) ∙ c .enum-told .given .1) (c .before .before .before .before .loop .inv .1), c .before .before .before .before .loop .inv .2)
 
 returns-2 : tie.Need-returns-2 Inv-loop μ-loop
-returns-2 c = ap answerOf (sym (left-done _ _ (c .loop-test .left) (c .before .loop .inv .1)))
+returns-2 c = ap answerOf (sym (ap firstFound (table-findings (view (c .before .before .before .before .before .before .args .t))) ∙ left-done _ _ _ (c .loop-test .left) (c .before .loop .inv .1)))
 
 pub table-rules-spec : {M : Type 1} → statement M
 table-rules-spec =

@@ -14,4 +14,5 @@ pub mod Confinement
 pub mod Unbroken
 pub mod Demand
 pub mod Written
+pub mod Order
 pub mod Examples

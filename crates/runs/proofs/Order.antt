@@ -2,9 +2,9 @@
 -- 56; and what the programs print for too long an input.
 -- Assumes nothing.
 use Prim.Native.Nat.{ℕ, _≤_, _<_}
-use mathlib.Core.Path.{_≡_, refl, sym, _∙_, ap}
+use mathlib.Core.Path.{_≡_, refl, _∙_, ap}
 use mathlib.Core.Bool.{false}
-use mathlib.Core.List.{List, [], _++_}
+use mathlib.Core.List.{List, _++_}
 use lib.Dec.{ltb}
 use lib.ListN.{length, take-append-drop}
 use borrow.Author.Tests.{lt-ltb, le-ltb, lt-leb, ne-eqb}
@@ -13,8 +13,8 @@ use Rattle.meaning.specs.Kinds.{rowOf, fits, follows}
 use Rattle.meaning.specs.Tables.{Package}
 use Rattle.meaning.specs.Reading.{Answer, answer, Took, refuses, need, isRead, isRefused, readText}
 use Rattle.meaning.specs.Check.{verdict}
-use Rattle.runs.specs.Script.{Reader, takeEntry, takeObject, takeStaticLink, takeObjectLink, takeLabel, takeStep, takeEnd, takeLater, takeFrame, takeLine, isNone, readShort, readScript}
-use Rattle.runs.specs.Programs.{Told, onlyAnswer, ifAccepted, ofReading, tellOf, ifRoom, runOf, answerLine, ifShort, checkOutput, cutAt, packagePart, runPart, print, runOutput}
+use Rattle.runs.specs.Script.{Reader, takeObject, takeStaticLink, takeObjectLink, takeLabel, takeStep, takeEnd, takeLater, takeFrame, takeLine, isNone, readShort, readScript}
+use Rattle.runs.specs.Programs.{onlyAnswer, ifAccepted, ofReading, tellOf, ifRoom, runOf, answerLine, checkOutput, cutAt, packagePart, runPart, print, runOutput}
 
 -- ---- before the run text
 

@@ -196,9 +196,7 @@ entry-fine P f =
       entry = ltb→lt (byte f 1) (length (P .methods)) m;
       typed =
           record {
-            references = λ o m. absurd (List·Memᴰ·not-nil m);
-            classes = λ o m. absurd (List·Memᴰ·not-nil m);
-            once = λ o o′ m. absurd (List·Memᴰ·not-nil m);
+            objects = record { references = λ o m. absurd (List·Memᴰ·not-nil m); classes = λ o m. absurd (List·Memᴰ·not-nil m); once = λ o o′ m. absurd (List·Memᴰ·not-nil m) };
             links = λ k m. absurd (List·Memᴰ·not-nil m);
             labels = λ l m. absurd (List·Memᴰ·not-nil m);
             saved = λ k m. absurd (List·Memᴰ·not-nil m);
@@ -324,9 +322,7 @@ module _ (P : Package) (g : Good P) where
         bottom = refl;
         typed =
             record {
-              references = o .typed .references;
-              classes = o .typed .classes;
-              once = o .typed .once;
+              objects = o .typed .objects;
               links = λ k m. o .typed .links k (in-set decides-sameLink (R .links) m);
               labels = λ l m. o .typed .labels l (in-set decides-sameLabel (R .labels) m);
               saved = λ k m. absurd (List·Memᴰ·not-nil m);

@@ -83,7 +83,7 @@ module _ (P : Package) (g : Good P) where
 
   module _ (s : State) (ok : Typed P s) where
     labelled : {r c : ℕ} → IsA P (s .pool) r c → (r < 256) × (c < 256)
-    labelled {r} {c} h = (omega (arith, ok .references _ (h .object)), omega (arith, ok .classes _ (h .object), subtype-le P (good-rising P g) (h .below), g .few-classes))
+    labelled {r} {c} h = (omega (arith, ok .objects .references _ (h .object)), omega (arith, ok .objects .classes _ (h .object), subtype-le P (good-rising P g) (h .below), g .few-classes))
 
     hold-bytes : {d r c : ℕ} → Holds P s d r c → Bytes (holding d r c)
     hold-bytes (Holds.frame e m) = let w = labelled (ok .labels _ m) in record { domain = rw (← e) (home-small _); ref = w .0; type = w .1 }

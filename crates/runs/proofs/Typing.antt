@@ -2,10 +2,11 @@
 -- and every number used is in the pool. The counts stay in their limits.
 -- Assumes nothing.
 use Prim.Native.Nat.{ℕ, _≤_, _<_}
+use native.Mathlib.Nat.{not-suc-le-self}
 use native.Mathlib.Omega.{arith}
 use mathlib.Core.Path.{_≡_, refl, sym, _∙_, ap, subst}
-use mathlib.Core.Logic.{_⊎_, inl, inr}
-use mathlib.Core.Option.{Option, none, some}
+use mathlib.Core.Logic.{_⊎_, inl, inr, _↔_}
+use mathlib.Core.Option.{Option, none, some, Option·some-ne-none}
 use mathlib.Core.List.{List, [], _∷_, List·Memᴰ·head, List·Memᴰ·tail}
 use lib.ListN.{length, List·getD-eq-default}
 use Rattle.meaning.specs.Lists.{In}
@@ -14,7 +15,7 @@ use Rattle.meaning.specs.Trust.{Subtype}
 use Rattle.meaning.specs.Good.{Good}
 use Rattle.meaning.proofs.Bools.{decides-lt, decided}
 use Rattle.meaning.proofs.Trust.{good-rising, subtype-trans}
-use Rattle.runs.specs.Machine.{Object, Link, Label, Saved, State, Step, object, label, withLabel, withLink, called, given, resumed, passed, Fresh, Returns, RoomGiven, Moves, t-widen, t-new, t-checkcast, t-getstatic, t-putstatic, t-getfield, t-putfield, t-invokestatic, t-invokemethod, t-return, RoomFor, RoomBack, Room}
+use Rattle.runs.specs.Machine.{Object, Link, Label, Saved, State, Step, nothing, object, label, withLabel, withLink, called, given, resumed, passed, Fresh, Returns, RoomGiven, Moves, t-widen, t-new, t-checkcast, t-getstatic, t-putstatic, t-getfield, t-putfield, t-invokestatic, t-invokemethod, t-return, RoomFor, RoomBack, Room}
 use Rattle.runs.specs.Run.{Placed, runFrom}
 use Rattle.runs.specs.Admitted.{IsA, TypedLink, ofClass, ofObject, TypedLabels, Reference, Typed, Within, ProperStep, Proper}
 use Rattle.runs.proofs.Tests.{decides-sameObject, decides-sameLabel, decides-sameLink}
@@ -46,34 +47,23 @@ module _ {P : Package} where
     pub typed-label : {r c : ℕ} {ls : List Label} → IsA P (s .pool) r c → Joins (label r c) (s .labels) ls
         → Typed P (record { pool = s .pool; links = s .links; labels = ls; method = s .method; saved = s .saved })
     typed-label h j =
-        record {
-          references = old .references;
-          classes = old .classes;
-          once = old .once;
-          links = old .links;
-          labels = joins-each j (λ (l : Label). IsA P (s .pool) (l .ref) (l .type)) h (old .labels);
-          saved = old .saved;
-        }
+        record { objects = old .objects; links = old .links; labels = joins-each j (λ (l : Label). IsA P (s .pool) (l .ref) (l .type)) h (old .labels); saved = old .saved }
 
     pub typed-link : {k : Link} {ks : List Link} → TypedLink P (s .pool) k → Joins k (s .links) ks
         → Typed P (record { pool = s .pool; links = ks; labels = s .labels; method = s .method; saved = s .saved })
     typed-link h j =
-        record {
-          references = old .references;
-          classes = old .classes;
-          once = old .once;
-          links = joins-each j (TypedLink P (s .pool)) h (old .links);
-          labels = old .labels;
-          saved = old .saved;
-        }
+        record { objects = old .objects; links = joins-each j (TypedLink P (s .pool)) h (old .links); labels = old .labels; saved = old .saved }
 
     pub typed-object : {r c : ℕ} {os : List Object} → Fresh r (s .pool) → Reference r → c < length (P .classes) → Joins (object r c) (s .pool) os
         → Typed P (record { pool = os; links = s .links; labels = s .labels; method = s .method; saved = s .saved })
     typed-object {r} {c} fresh small declared j =
         record {
-          references = joins-each j (λ (o : Object). Reference (o .ref)) small (old .references);
-          classes = joins-each j (λ (o : Object). o .class < length (P .classes)) declared (old .classes);
-          once = λ o o′ m m′. one o o′ (j .only o m) (j .only o′ m′);
+          objects =
+              record {
+                references = joins-each j (λ (o : Object). Reference (o .ref)) small (old .objects .references);
+                classes = joins-each j (λ (o : Object). o .class < length (P .classes)) declared (old .objects .classes);
+                once = λ o o′ m m′. one o o′ (j .only o m) (j .only o′ m′);
+              };
           links = λ k m. link-more (j .old) (old .links k m);
           labels = λ l m. is-a-more (j .old) (old .labels l m);
           saved = λ k n l m. is-a-more (j .old) (old .saved k n l m);
@@ -86,14 +76,12 @@ module _ {P : Package} where
         one o o′ (inl p) (inl q) e = p ∙ sym q
         one o o′ (inl p) (inr m) e = absurd (other m (sym e ∙ ap (λ (x : Object). x .ref) p))
         one o o′ (inr m) (inl q) e = absurd (other m (e ∙ ap (λ (x : Object). x .ref) q))
-        one o o′ (inr m) (inr n) e = old .once o o′ m n e
+        one o o′ (inr m) (inr n) e = old .objects .once o o′ m n e
 
     typed-called : (c : Option ℕ) (v : ℕ) (ls : List Label) → TypedLabels P (s .pool) ls → Typed P (called s c v ls)
     typed-called c v ls h =
         record {
-          references = old .references;
-          classes = old .classes;
-          once = old .once;
+          objects = old .objects;
           links = old .links;
           labels = λ l m. h l (in-set decides-sameLabel ls m);
           saved = joins-each (joins-cons _ (s .saved)) (λ (k : Saved). TypedLabels P (s .pool) (k .labels)) (old .labels) (old .saved);
@@ -102,9 +90,7 @@ module _ {P : Package} where
     typed-resumed : (r : ℕ) (k : Saved) {ks : List Saved} → s .saved ≡ k ∷ ks → Returns (s .labels) (k .pending) r → Typed P (resumed s r k ks)
     typed-resumed r k q h =
         record {
-          references = old .references;
-          classes = old .classes;
-          once = old .once;
+          objects = old .objects;
           links = old .links;
           labels = on (k .pending) h;
           saved = λ x m. old .saved x (rw q (List·Memᴰ·tail m));
@@ -116,6 +102,13 @@ module _ {P : Package} where
 
     typed-add : (r c : ℕ) → IsA P (s .pool) r c → Typed P (withLabel s r c)
     typed-add r c h = typed-label h (joins-add decides-sameLabel (label r c) (s .labels))
+
+-- ---- a return of FF
+
+-- references are 00 to FE, so that FF fits exactly the methods without return type
+pub nothing-fits : {P : Package} {s : State} → Typed P s → (c : Option ℕ) → Returns (s .labels) c nothing ↔ (c ≡ none)
+nothing-fits ok none = (λ _. refl, λ _. refl)
+nothing-fits ok (some c) = (λ m. absurd (not-suc-le-self 0xFF (ok .objects .references _ (ok .labels _ m .object))), λ e. absurd (Option·some-ne-none c e))
 
 -- ---- the limits
 

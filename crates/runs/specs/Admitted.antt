@@ -33,10 +33,14 @@ TypedLabels P os ls = (l : Label) → In l ls → IsA P os (l .ref) (l .type)
 abbrev pub Reference : ℕ → Type 0
 Reference r = r < 0xFF
 
+-- every number is an instance of exactly one declared class
+pub record Objects (P : Package) (os : List Object) : Type 0 where
+  pub references : (o : Object) → In o os → Reference (o .ref)
+  pub classes : (o : Object) → In o os → o .class < length (P .classes)
+  pub once : (o o′ : Object) → In o os → In o′ os → o .ref ≡ o′ .ref → o ≡ o′
+
 pub record Typed (P : Package) (s : State) : Type 0 where
-  pub references : (o : Object) → In o (s .pool) → Reference (o .ref)
-  pub classes : (o : Object) → In o (s .pool) → o .class < length (P .classes)
-  pub once : (o o′ : Object) → In o (s .pool) → In o′ (s .pool) → o .ref ≡ o′ .ref → o ≡ o′
+  pub objects : Objects P (s .pool)
   pub links : (k : Link) → In k (s .links) → TypedLink P (s .pool) k
   pub labels : TypedLabels P (s .pool) (s .labels)
   pub saved : (k : Saved) → In k (s .saved) → TypedLabels P (s .pool) (k .labels)

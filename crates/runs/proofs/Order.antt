@@ -1,20 +1,20 @@
 -- The order of the refusals of a run (01, "Order"): 65; the package's own answer; 51; within a line 52, on line 1 then 53, on later lines 55, 58,
--- 56; and what the programs print for too long an input.
+-- 56; and what the programs print, by the length of their input.
 -- Assumes nothing.
 use Prim.Native.Nat.{ℕ, _≤_, _<_}
 use mathlib.Core.Path.{_≡_, refl, _∙_, ap}
 use mathlib.Core.Bool.{false}
-use mathlib.Core.List.{List, _++_}
+use mathlib.Core.List.{List, [], _++_}
 use lib.Dec.{ltb}
 use lib.ListN.{length, take-append-drop}
-use borrow.Author.Tests.{lt-ltb, le-ltb, lt-leb, ne-eqb}
+use borrow.Author.Tests.{lt-ltb, le-ltb, le-leb, lt-leb, ne-eqb}
 use Rattle.meaning.specs.Text.{byte, linesOf}
 use Rattle.meaning.specs.Kinds.{rowOf, fits, follows}
 use Rattle.meaning.specs.Tables.{Package}
 use Rattle.meaning.specs.Reading.{Answer, answer, Took, refuses, need, isRead, isRefused, readText}
-use Rattle.meaning.specs.Check.{verdict}
-use Rattle.runs.specs.Script.{Reader, takeObject, takeStaticLink, takeObjectLink, takeLabel, takeStep, takeEnd, takeLater, takeFrame, takeLine, isNone, readShort, readScript}
-use Rattle.runs.specs.Programs.{onlyAnswer, ifAccepted, ofReading, tellOf, ifRoom, runOf, answerLine, checkOutput, cutAt, packagePart, runPart, print, runOutput}
+use Rattle.meaning.specs.Check.{verdict, checkOf}
+use Rattle.runs.specs.Script.{Reader, takeObject, takeStaticLink, takeObjectLink, takeLabel, takeStep, takeEnd, takeLater, takeFrame, takeLine, isNone, readLines, noReader, readShort, readScript}
+use Rattle.runs.specs.Programs.{onlyAnswer, ifAccepted, ofReading, tellOf, ifRoom, runOf, answerLine, checkOutput, cutAt, packagePart, runPart, runOutput}
 
 -- ---- before the run text
 
@@ -33,6 +33,10 @@ broken-package p t P e n = ap (ofReading t) e ∙ ap (ifAccepted P t (verdict P)
 pub long-text : (P : Package) (t : List ℕ) → 32768 < length t → readScript P t ≡ isNone (answer 51 0 0)
 unfolding readScript
 long-text P t l = ap (readShort P t) (lt-leb (length t) 32768 l)
+
+pub short-text : (P : Package) (t : List ℕ) → length t ≤ 32768 → readScript P t ≡ readLines P noReader 0 (linesOf t)
+unfolding readScript
+short-text P t l = ap (readShort P t) (le-leb (length t) 32768 l)
 
 -- ---- within a line
 
@@ -84,9 +88,17 @@ pub long-check : (s : List ℕ) → 65536 < length s → checkOutput s ≡ answe
 unfolding checkOutput
 long-check s l = rw (lt-leb (length s) 65536 l)
 
-pub long-run : (s : List ℕ) → 65536 < length s → runOutput s ≡ print (onlyAnswer (answer 1 0 0))
+pub short-check : (s : List ℕ) → length s ≤ 65536 → checkOutput s ≡ answerLine (checkOf s)
+unfolding checkOutput
+short-check s l = rw (le-leb (length s) 65536 l)
+
+pub long-run : (s : List ℕ) → 65536 < length s → runOutput s ≡ answerLine (answer 1 0 0) ++ []
 unfolding runOutput
 long-run s l = rw (lt-leb (length s) 65536 l)
+
+pub short-run : (s : List ℕ) → length s ≤ 65536 → runOutput s ≡ answerLine (tellOf (packagePart s) (runPart s) .answer) ++ tellOf (packagePart s) (runPart s) .text
+unfolding runOutput
+short-run s l = rw (le-leb (length s) 65536 l)
 
 -- nothing is added or lost where the input is cut
 pub cut-whole : (s : List ℕ) → packagePart s ++ runPart s ≡ s

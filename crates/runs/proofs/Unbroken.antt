@@ -1,17 +1,28 @@
--- An accepted package keeps the rules that confinement rests on.
+-- A package is accepted exactly when its check answers 0, and then keeps the rules that confinement rests on.
 -- Assumes nothing.
 use Prim.Native.Nat.{ℕ}
 use mathlib.Core.Path.{_≡_, _∙_, subst}
-use mathlib.Core.Logic.{_⊎_, inl, inr}
+use mathlib.Core.Logic.{_⊎_, inl, inr, _↔_}
 use mathlib.Core.Option.{some}
+use mathlib.Core.List.{List}
 use Rattle.meaning.specs.Lists.{In}
 use Rattle.meaning.specs.Tables.{Package, ownerOf, resultOf, paramsOf, fieldClass, fieldType, siteOf, callerOf, opOf, namedBy}
 use Rattle.meaning.specs.Rules.{Granted}
 use Rattle.meaning.specs.Trust.{Trusts, MethodTrusts, Mates}
+use Rattle.meaning.specs.Reading.{answer, isRead, readText}
+use Rattle.meaning.specs.Check.{checkOf}
 use Rattle.meaning.proofs.Accepted.{Lawful, lawful}
+use Rattle.meaning.proofs.Check.{check-law}
+use Rattle.meaning.proofs.ReadGood.{read-good}
 use Rattle.runs.specs.Kept.{Keeps}
 use Rattle.runs.specs.Reach.{Accepted}
 use Rattle.runs.proofs.Effects.{Stands, stands}
+
+pub accepted-is : (p : List ℕ) (P : Package) → readText p ≡ isRead P → (checkOf p ≡ answer 0 0 0) ↔ Accepted P
+accepted-is p P e =
+    let law = check-law p .accepts P e in
+    let g = read-good p P e in
+    (λ q. record { good = g; unbroken = law g .0 q }, λ a. law (a .good) .1 (a .unbroken))
 
 module _ (P : Package) (ok : Accepted P) where
   rules : Lawful P

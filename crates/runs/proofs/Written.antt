@@ -17,8 +17,6 @@ use Rattle.meaning.specs.Trust.{Subtype}
 use Rattle.meaning.specs.Good.{Good}
 use Rattle.meaning.proofs.Bools.{both}
 use Rattle.meaning.proofs.Lists.{getD-in}
-use Rattle.meaning.proofs.Check.{check-law}
-use Rattle.meaning.proofs.ReadGood.{read-good}
 use Rattle.runs.specs.Machine.{State}
 use Rattle.runs.specs.Run.{runFrom}
 use Rattle.runs.specs.Script.{Script, ScriptReading, isScript, isNone, readScript}
@@ -30,6 +28,7 @@ use Rattle.runs.proofs.Typing.{typed-run, within-run}
 use Rattle.runs.proofs.Admits.{Starts, script-starts}
 use Rattle.runs.proofs.Sorted.{Bytes, in-sorted, line-one}
 use Rattle.runs.proofs.Held.{holdings-bytes, holdings-hold, length-text, text-fits}
+use Rattle.runs.proofs.Unbroken.{accepted-is}
 use Rattle.runs.proofs.Reached.{reached}
 use Rattle.runs.proofs.Demand.{demand3}
 
@@ -46,9 +45,7 @@ zero-found (x ∷ xs) t q = let h = both (ltb 0 (x .number)) (all (λ (y : Findi
 
 zero-accepted : (p : List ℕ) (P : Package) → readText p ≡ isRead P → (verdict P) .number ≡ 0 → Accepted P
 unfolding checkOf verdict tableFindings effectFindings all
-zero-accepted p P e z =
-    let g = read-good p P e in
-    record { good = g; unbroken = check-law p .accepts P e g .0 (ap answerOf e ∙ zero-found (tableFindings P ++ effectFindings P) tt z) }
+zero-accepted p P e z = accepted-is p P e .0 (ap answerOf e ∙ zero-found (tableFindings P ++ effectFindings P) tt z)
 
 -- ---- what is told
 

@@ -2,7 +2,7 @@
 -- Assumes nothing.
 use Prim.Native.Nat.{ℕ}
 use mathlib.Core.Path.{_≡_, refl}
-use mathlib.Core.List.{List, [], _∷_, map}
+use mathlib.Core.List.{[], _∷_, map}
 use Rattle.meaning.specs.Tables.{Package}
 use Rattle.meaning.specs.Check.{Finding, effectFindings}
 use Rattle.effect_rules.specs.Search.{breaksOf, secondsOf, firstEffect}

@@ -11,15 +11,15 @@ use mathlib.Core.Bool.{Bool, false}
 use mathlib.Core.List.{List, []}
 use lib.ListN.{length, getD}
 use borrow.Author.Tests.{lt-ltb, le-ltb, eq-eqb, ne-eqb}
-use Rattle.meaning.specs.Tables.{Package, noEffect, noField, noMethod, effectAt, fieldAt, methodAt, callerOf, namedBy}
+use Rattle.meaning.specs.Tables.{Package, noEffect, noField, noMethod, callerOf, namedBy}
 use Rattle.meaning.proofs.Search.{ClearRow, row-none, row-more}
 use Rattle.tables.specs.declared.Method.{Method}
 use Rattle.tables.specs.declared.Effects.{Effects}
 use Rattle.tables.specs.declared.Fields.{Fields}
 use Rattle.tables.specs.declared.Methods.{Methods}
-use Rattle.tables.specs.View.{zeroEffect, zeroField, zeroMethod}
-use Rattle.tables.specs.Pack.{packEffect, packField, packMethod, packEffects, packFields, packMethods}
-use Rattle.tables.proofs.Access.{pad-map-at}
+use Rattle.tables.specs.View.{zeroEffect, zeroField}
+use Rattle.tables.specs.Pack.{packEffect, packField, packMethod}
+use Rattle.tables.proofs.Views.{Holds}
 use Rattle.homes.specs.Homes.{Rows}
 use Rattle.effect_rules.specs.declared.Site.{Site}
 use Rattle.effect_rules.specs.Sites.{Seen}
@@ -29,59 +29,43 @@ use Rattle.effect_rules.proofs.Rules.{off-30}
 
 -- ---- an effect
 
--- the tables that the search holds are P's
-pub record Held (homes doms : List ℕ) (effects : Effects) (fields : Fields) (methods : Methods) (P : Package) : Type 0 where
+-- the tables that the search has before it are P's
+pub record Searched (homes doms : List ℕ) (effects : Effects) (fields : Fields) (methods : Methods) (P : Package) : Type 0 where
   pub rows : Rows P homes doms
-  pub the-effects : effects ≡ packEffects (P .effects)
-  pub the-fields : fields ≡ packFields (P .fields)
-  pub the-methods : methods ≡ packMethods (P .methods)
+  pub of-effects : Holds packEffect noEffect (P .effects) 1024 (effects .n) (effects .at)
+  pub of-fields : Holds packField noField (P .fields) 256 (fields .n) (fields .at)
+  pub of-methods : Holds packMethod noMethod (P .methods) 256 (methods .n) (methods .at)
 
--- what the code would read behind an array
-abbrev unreadMethod : Method
-unreadMethod = record { class = 0; label = 0; stat = 0; slot = 0; result = 0; k = 0; params = [] }
+-- what the code would read behind an array of methods
+abbrev unread : Method
+unread = record { class = 0; label = 0; stat = 0; slot = 0; result = 0; k = 0; params = [] }
 
 -- effect i with the method m and what has the number x
 abbrev pub siteAt : Effects → Fields → Methods → ℕ → ℕ → ℕ → Site
 siteAt effects fields methods i m x =
     record {
       effect = getD (effects .at) i zeroEffect;
-      caller = getD (methods .at) m unreadMethod;
+      caller = getD (methods .at) m unread;
       field = getD (fields .at) x zeroField;
-      called = getD (methods .at) x unreadMethod;
+      called = getD (methods .at) x unread;
     }
 
-module _ {homes doms : List ℕ} {effects : Effects} {fields : Fields} {methods : Methods} {P : Package} (h : Held homes doms effects fields methods P) where
-  pub count : effects .n ≡ length (P .effects)
-  unfolding packEffects
-  count = rw (h .the-effects)
-
-  effect-at : (i : ℕ) → i < length (P .effects) → getD (effects .at) i zeroEffect ≡ packEffect (effectAt P i)
-  unfolding packEffects
-  effect-at i l = rw (h .the-effects) (pad-map-at packEffect 1024 zeroEffect (P .effects) i zeroEffect noEffect l)
-
-  field-at : (x : ℕ) → x < length (P .fields) → getD (fields .at) x zeroField ≡ packField (fieldAt P x)
-  unfolding packFields
-  field-at x l = rw (h .the-fields) (pad-map-at packField 256 zeroField (P .fields) x zeroField noField l)
-
-  method-at : (m : ℕ) → m < length (P .methods) → getD (methods .at) m unreadMethod ≡ packMethod (methodAt P m)
-  unfolding packMethods
-  method-at m l = rw (h .the-methods) (pad-map-at packMethod 256 zeroMethod (P .methods) m unreadMethod noMethod l)
-
-  pub seen-at : (i m x : ℕ) → i < length (P .effects) → m ≡ (getD (effects .at) i zeroEffect) .method → x ≡ (getD (effects .at) i zeroEffect) .number
-      → Seen homes doms (siteAt effects fields methods i m x) P i
-  unfolding callerOf namedBy
-  seen-at i m x l p q =
-      let e = effect-at i l in
-      let u : m ≡ callerOf P i = p ∙ rw e in
-      let v : x ≡ namedBy P i = q ∙ rw e in
-      record {
-        rows = h .rows;
-        declared = l;
-        effect = e;
-        caller = rw u (method-at (callerOf P i) ((h .rows .good .effects i l) .method));
-        field = λ d. rw v (field-at (namedBy P i) d);
-        called = λ d. rw v (method-at (namedBy P i) d);
-      }
+pub seen-at : {homes doms : List ℕ} {effects : Effects} {fields : Fields} {methods : Methods} {P : Package} → Searched homes doms effects fields methods P
+    → (i m x : ℕ) → i < length (P .effects) → m ≡ (getD (effects .at) i zeroEffect) .method → x ≡ (getD (effects .at) i zeroEffect) .number
+    → Seen homes doms (siteAt effects fields methods i m x) P i
+unfolding callerOf namedBy
+seen-at {P = P} h i m x l p q =
+    let e = h .of-effects .at i zeroEffect l in
+    let u : m ≡ callerOf P i = p ∙ rw e in
+    let v : x ≡ namedBy P i = q ∙ rw e in
+    record {
+      rows = h .rows;
+      declared = l;
+      effect = e;
+      caller = rw u (h .of-methods .at (callerOf P i) unread ((h .rows .good .effects i l) .method));
+      field = λ d. rw v (h .of-fields .at (namedBy P i) zeroField d);
+      called = λ d. rw v (h .of-methods .at (namedBy P i) unread d);
+    }
 
 -- ---- its second places
 

@@ -3,7 +3,7 @@ ghost use mathlib.Core.Path.{_≡_};
 ghost use Prim.Native.Nat.{_<_, _≤_};
 ghost use Rattle.meaning.specs.Tests.{breaks26, breaks27, breaks28, breaks29, breaks30};
 ghost use Rattle.tables.specs.View.{view};
-ghost use Rattle.tables.specs.Pack.{pack};
+ghost use Rattle.tables.specs.Held.{Held};
 ghost use Rattle.found.specs.Found.{foundOf};
 ghost use Rattle.homes.specs.Homes.{Small, Rows};
 ghost use Rattle.effect_rules.specs.Sites.{labelBit, Known, Judges, Grants};
@@ -159,7 +159,7 @@ fn places(rule: u8, s: Site) -> usize
 // One search for every rule over effects.
 pub fn first_effect(rule: u8, t: tables::Tables, homes: &[u8; 127], doms: &[u32; 32]) -> Found
     requires { ⌜ EffectRule rule ⌝ }
-    requires { ⌜ t ≡ pack (view t) ⌝ }
+    requires { ⌜ Held t ⌝ }
     requires { ⌜ Rows (view t) (now homes) (now doms) ⌝ }
     ensures { λ r. ⌜ r ≡ foundOf (firstEffect rule (view t)) ⌝ }
 {

@@ -1,61 +1,62 @@
 -- `effect_rules::first_effect` meets its contract. The invariants: no effect before i, and no place of effect i before j, breaks the
 -- rule in any package that the tables at hand are of.
 -- Assumes nothing.
-use Prim.Native.Nat.{_≤_, _-_}
+use Prim.Native.Nat.{ℕ, _≤_, _-_}
 use native.Mathlib.Nat.{le-refl, le-antisymm}
 use native.Mathlib.Omega.{arith}
 use mathlib.Core.Path.{_≡_, refl, sym, ap, _∙_}
 use borrow.Author.Needs.{needs}
 use Rattle.meaning.specs.Tables.{Package}
 use Rattle.meaning.proofs.Search.{Clear, ClearRow, clear-none, row-none, row-more, clear-more, pair-none, pair-hit}
-use Rattle.tables.specs.declared.Tables.{Tables}
 use Rattle.tables.specs.View.{view}
-use Rattle.tables.specs.Pack.{pack}
+use Rattle.tables.proofs.Views.{held-fields, held-methods, held-effects}
 use Rattle.found.specs.Found.{foundOf}
 use Rattle.found.specs.declared.Found.the-variants.{Nothing}
 use Rattle.effect_rules.specs.Sites.{Seen}
 use Rattle.effect_rules.specs.Search.{breaksOf, secondsOf, firstEffect}
-use Rattle.effect_rules.proofs.Turns.{Held, siteAt, count, seen-at, places-most, row-all}
+use Rattle.effect_rules.proofs.Turns.{Searched, siteAt, seen-at, places-most, row-all}
 use Rattle.effect_rules.proofs.first_effect.Statement.{statement}
 use Rattle.effect_rules.proofs.first_effect.Tie as tie
 
 abbrev Inv-loop : tie.InvT-loop
 Inv-loop rule homes doms effects fields methods n found₀ i m x s k j₀ found j =
-    (j ≤ k) × (found ≡ Nothing) × ((P : Package) → Held homes doms effects fields methods P → ClearRow (breaksOf rule P) i j)
+    (j ≤ k) × (found ≡ Nothing) × ((P : Package) → Searched homes doms effects fields methods P → ClearRow (breaksOf rule P) i j)
 
 abbrev μ-loop : tie.MeasureT-loop
 μ-loop rule homes doms effects fields methods n found₀ i m x s k j₀ found j = k - j
 
 abbrev Inv-search : tie.InvT-search
 Inv-search rule homes doms effects fields methods n found₀ i₀ found i =
-    (i ≤ n) × (found ≡ Nothing) × ((P : Package) → Held homes doms effects fields methods P → Clear (secondsOf rule P) (breaksOf rule P) i)
+    (i ≤ n) × (found ≡ Nothing) × ((P : Package) → Searched homes doms effects fields methods P → Clear (secondsOf rule P) (breaksOf rule P) i)
 
 abbrev μ-search : tie.MeasureT-search
 μ-search rule homes doms effects fields methods n found₀ i₀ found i = n - i
 
--- the tables are those of their view
-held : (c : tie.Start Inv-loop μ-loop Inv-search μ-search) → Held (c .args .homes .now) (c .args .doms .now) (c .args .t .effects) (c .args .t .fields) (c .args .t .methods) (view (c .args .t))
-unfolding pack
-held c =
-    let e = c .pre .1 .0 in
-    record {
-      rows = c .pre .1 .1;
-      the-effects = ap (λ (t : Tables). t .effects) e;
-      the-fields = ap (λ (t : Tables). t .fields) e;
-      the-methods = ap (λ (t : Tables). t .methods) e;
-    }
+-- where the search begins, with the tables of P before it
+abbrev Of : tie.Start Inv-loop μ-loop Inv-search μ-search → Package → Type 0
+Of s P = Searched (s .args .homes .now) (s .args .doms .now) (s .args .t .effects) (s .args .t .fields) (s .args .t .methods) P
 
-few : (c : tie.Start Inv-loop μ-loop Inv-search μ-search) → c .args .t .effects .n ≤ 1024
-few c = omega (arith, count (held c), c .pre .1 .1 .good .few-effects)
+own : (s : tie.Start Inv-loop μ-loop Inv-search μ-search) → Of s (view (s .args .t))
+own s =
+    let t = s .args .t in
+    let h = s .pre .1 .0 in
+    record { rows = s .pre .1 .1; of-effects = held-effects t h; of-fields = held-fields t h; of-methods = held-methods t h }
 
--- effect i, as any of those packages has it
-seen : (c : tie.After-places Inv-loop μ-loop Inv-search μ-search) (P : Package)
-    → Held (c .before .before .before .before .before .before .before .before .before .before .before .before .args .homes .now) (c .before .before .before .before .before .before .before .before .before .before .before .before .args .doms .now) (c .before .before .before .before .before .before .before .before .before .before .before .before .args .t .effects) (c .before .before .before .before .before .before .before .before .before .before .before .before .args .t .fields) (c .before .before .before .before .before .before .before .before .before .before .before .before .args .t .methods) P
-    → Seen (c .before .before .before .before .before .before .before .before .before .before .before .before .args .homes .now) (c .before .before .before .before .before .before .before .before .before .before .before .before .args .doms .now)
-    (siteAt (c .before .before .before .before .before .before .before .before .before .before .before .before .args .t .effects) (c .before .before .before .before .before .before .before .before .before .before .before .before .args .t .fields) (c .before .before .before .before .before .before .before .before .before .before .before .before .args .t .methods) (c .before .before .before .before .before .before .before .before .search .i) (c .before .before .before .before .before .wide .result) (c .before .before .before .before .wide2 .result))
-    P (c .before .before .before .before .before .before .before .before .search .i)
+few : (s : tie.Start Inv-loop μ-loop Inv-search μ-search) → s .args .t .effects .n ≤ 1024
+few s = let h = own s .of-effects in omega arith
+
+-- effect i, as any such package has it
+abbrev start : tie.After-places Inv-loop μ-loop Inv-search μ-search → tie.Start Inv-loop μ-loop Inv-search μ-search
+start c = c .before .before .before .before .before .before .before .before .before .before .before .before
+
+abbrev turn : tie.After-places Inv-loop μ-loop Inv-search μ-search → ℕ
+turn c = c .before .before .before .before .before .before .before .before .search .i
+
+seen : (c : tie.After-places Inv-loop μ-loop Inv-search μ-search) (P : Package) → Of (start c) P
+    → Seen (start c .args .homes .now) (start c .args .doms .now)
+    (siteAt (start c .args .t .effects) (start c .args .t .fields) (start c .args .t .methods) (turn c) (c .before .before .before .before .before .wide .result) (c .before .before .before .before .wide2 .result)) P (turn c)
 seen c P h =
-    seen-at h (c .before .before .before .before .before .before .before .before .search .i) (c .before .before .before .before .before .wide .result) (c .before .before .before .before .wide2 .result) (omega (arith, count h, c .before .before .before .before .before .before .before .search-test .taken))
+    seen-at h (turn c) (c .before .before .before .before .before .wide .result) (c .before .before .before .before .wide2 .result) (omega (arith, h .of-effects .count, c .before .before .before .before .before .before .before .search-test .taken))
     (c .before .before .before .before .before .wide .ensures .0) (c .before .before .before .before .wide2 .ensures .0)
 
 search-holds : tie.Need-search-holds Inv-loop μ-loop Inv-search μ-search
@@ -100,7 +101,7 @@ loop-holds c = (search needs, c .before .before .before .before .before .before 
 breaks-requires : tie.Need-breaks-requires Inv-loop μ-loop Inv-search μ-search
 breaks-requires c κs =
     let s = c .before .before .before .before .before .before .before .before .before .before .before .before .before .before in
-    (s .pre .0, ((view (s .args .t), c .before .before .before .before .before .before .before .before .before .before .search .i, seen (c .before .before) (view (s .args .t)) (held s)), omega (arith, c .before .before .places .ensures)))
+    (s .pre .0, ((view (s .args .t), c .before .before .before .before .before .before .before .before .before .before .search .i, seen (c .before .before) (view (s .args .t)) (own s)), omega (arith, c .before .before .places .ensures)))
 
 add-j : tie.Need-add-j Inv-loop μ-loop Inv-search μ-search
 add-j c = omega arith
@@ -133,13 +134,13 @@ search-again c = (
 returns : tie.Need-returns Inv-loop μ-loop Inv-search μ-search
 unfolding firstEffect
 returns c =
-    let h = held (c .before .before .before .before .before) in
-    c .before .search .inv .1 ∙ ap foundOf (sym (pair-none (omega (arith, count h)) (omega (arith, count h)) (c .before .search .inv .2 (view (c .before .before .before .before .before .args .t)) h)))
+    let h = own (c .before .before .before .before .before) in
+    c .before .search .inv .1 ∙ ap foundOf (sym (pair-none (omega (arith, h .of-effects .count)) (omega (arith, h .of-effects .count)) (c .before .search .inv .2 (view (c .before .before .before .before .before .args .t)) h)))
 
 returns-2 : tie.Need-returns-2 Inv-loop μ-loop Inv-search μ-search
 unfolding firstEffect
 returns-2 c =
-    let h = held (c .before .before .before .before .before .before .before .before .before .before .before .before .before .before .before .before) in
+    let h = own (c .before .before .before .before .before .before .before .before .before .before .before .before .before .before .before .before) in
     let P = view (c .before .before .before .before .before .before .before .before .before .before .before .before .before .before .before .before .args .t) in
     let a = seen (c .before .before .before .before) P h in
     ap foundOf

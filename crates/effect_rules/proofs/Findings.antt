@@ -1,15 +1,56 @@
--- The search by numbers finds what `meaning`'s findings of the rules over effects are.
+-- The searches by the rules' numbers are `meaning`'s findings of the rules over effects, and their places fit two bytes.
 -- Assumes nothing.
-use Prim.Native.Nat.{ℕ}
-use mathlib.Core.Path.{_≡_, refl}
-use mathlib.Core.List.{[], _∷_, map}
-use Rattle.meaning.specs.Tables.{Package}
-use Rattle.meaning.specs.Check.{Finding, effectFindings}
-use Rattle.effect_rules.specs.Search.{breaksOf, secondsOf, firstEffect}
+use Prim.Native.Nat.{ℕ, _≤_, _<_}
+use native.Mathlib.Decide.{decLt, ℕ-discrete}
+use native.Mathlib.Omega.{arith}
+use mathlib.Core.Path.{_≡_, refl, ap}
+use mathlib.Core.Bool.{_&&_}
+use mathlib.Core.List.{[], map}
+use lib.Dec.{leb, leb→le}
+use lib.ListN.{length, getD, List·getD-eq-default}
+use borrow.Author.Tests.{eq-eqb, ne-eqb}
+use Rattle.meaning.specs.Lists.{all}
+use Rattle.meaning.specs.Tables.{Package, noMethod, paramsOf, namedBy}
+use Rattle.meaning.specs.Check.{effectFindings}
+use Rattle.meaning.specs.Good.{Good}
+use Rattle.meaning.proofs.Bools.{both}
+use Rattle.meaning.proofs.Lists.{all-sound, getD-in}
+use Rattle.found.specs.declared.Found.the-variants.{At}
+use Rattle.found.specs.Found.{foundOf}
+use Rattle.found.proofs.Named.{byNumber, places}
+use Rattle.effect_rules.specs.Search.{effectNumbers, EffectRule, breaksOf, secondsOf, firstEffect}
 
-abbrev finding : Package → ℕ → Finding
-finding P n = record { number = n; found = firstEffect n P }
-
-pub findings : (P : Package) → effectFindings P ≡ map (finding P) (26 ∷ 27 ∷ 28 ∷ 29 ∷ 30 ∷ [])
+pub effect-findings : (P : Package) → effectFindings P ≡ map (byNumber (λ (r : ℕ). firstEffect r P)) effectNumbers
 unfolding effectFindings firstEffect breaksOf secondsOf
-findings P = refl
+effect-findings P = refl
+
+pub effect-rule : (i : ℕ) → i < 5 → EffectRule (getD effectNumbers i 0)
+unfolding all
+effect-rule i h =
+    let r = getD effectNumbers i 0 in
+    let t = both (leb 26 r) (leb r 30) (all-sound (λ (x : ℕ). leb 26 x && leb x 30) {xs = effectNumbers} tt (getD-in effectNumbers i 0 h)) in
+    record { least = leb→le 26 r (t .0); most = leb→le r 30 (t .1) }
+
+module _ (P : Package) (g : Good P) where
+  params-few : (m : ℕ) → length (paramsOf P m) ≤ 6
+  params-few m = on (decLt m (length (P .methods)))
+    where
+      on : Dec (m < length (P .methods)) → length (paramsOf P m) ≤ 6
+      on (yes h) = (g .methods m h) .few
+      on (no n) =
+          let e : paramsOf P m ≡ [] = unfold paramsOf in ap (λ x. x .params) (List·getD-eq-default (P .methods) noMethod {n = m} (omega arith)) in
+          rw e (omega arith)
+
+  seconds-few : (rule i : ℕ) → secondsOf rule P i ≤ 6
+  unfolding secondsOf
+  seconds-few rule i = on (ℕ-discrete rule 30)
+    where
+      on : Dec (rule ≡ 30) → secondsOf rule P i ≤ 6
+      on (yes e) = rw (eq-eqb rule 30 e) (params-few (namedBy P i))
+      on (no n) = rw (ne-eqb rule 30 n) (omega arith)
+
+  pub found-places : (rule i j : ℕ) → foundOf (firstEffect rule P) ≡ At i j → (i < 1024) × (j < 6)
+  unfolding firstEffect
+  found-places rule i j e =
+      let f = places (length (P .effects)) (secondsOf rule P) (breaksOf rule P) i j e in
+      (omega (arith, f .0, g .few-effects), omega (arith, f .1, seconds-few rule i))

@@ -3,6 +3,7 @@
 use Prim.Native.Nat.{ℕ, _≤_}
 use mathlib.Core.Bool.{Bool, cond}
 use mathlib.Core.Option.{Option}
+use mathlib.Core.List.{List, [], _∷_}
 use lib.Dec.{eqb, ltb}
 use lib.ListN.{length}
 use Rattle.meaning.specs.Lists.{Place, firstPlace}
@@ -10,7 +11,10 @@ use Rattle.meaning.specs.Tables.{Package, paramsOf, namedBy}
 use Rattle.meaning.specs.Tests.{breaks26, breaks27, breaks28, breaks29, breaks30}
 use Rattle.effect_rules.specs.declared.Site.{Site}
 
--- 26 to 30
+-- the rules over effects in 01's order
+abbrev pub effectNumbers : List ℕ
+effectNumbers = 26 ∷ 27 ∷ 28 ∷ 29 ∷ 30 ∷ []
+
 pub record EffectRule (rule : ℕ) : Type 0 where
   pub least : 26 ≤ rule
   pub most : rule ≤ 30

@@ -1,14 +1,18 @@
 // The rules over effects, 26 to 30: a test for each, and one search for all. What they mean is `meaning`'s Tests.antt.
 ghost use mathlib.Core.Path.{_≡_};
 ghost use Prim.Native.Nat.{_<_, _≤_};
+ghost use Rattle.meaning.specs.Check.{firstFound, effectFindings};
 ghost use Rattle.meaning.specs.Tests.{breaks26, breaks27, breaks28, breaks29, breaks30};
 ghost use Rattle.tables.specs.View.{view};
 ghost use Rattle.tables.specs.Held.{Held};
-ghost use Rattle.found.specs.Found.{foundOf};
+ghost use Rattle.found.specs.Found.{foundOf, answerOf};
 ghost use Rattle.homes.specs.Homes.{Small, Rows};
 ghost use Rattle.effect_rules.specs.Sites.{labelBit, Known, Judges, Grants};
 ghost use Rattle.effect_rules.specs.Search.{EffectRule, breaksOf, placesOf, firstEffect};
+use found::Answer;
 use found::Found;
+
+const EFFECT_RULES: [u8; 5] = [26, 27, 28, 29, 30];
 
 // An effect and the method that has it, with the field and the method of the number that it names: its op says which of the two counts.
 struct Site {
@@ -157,7 +161,7 @@ fn places(rule: u8, s: Site) -> usize
 }
 
 // One search for every rule over effects.
-pub fn first_effect(rule: u8, t: tables::Tables, homes: &[u8; 127], doms: &[u32; 32]) -> Found
+fn first_effect(rule: u8, t: tables::Tables, homes: &[u8; 127], doms: &[u32; 32]) -> Found
     requires { ⌜ EffectRule rule ⌝ }
     requires { ⌜ Held t ⌝ }
     requires { ⌜ Rows (view t) (now homes) (now doms) ⌝ }
@@ -190,4 +194,27 @@ pub fn first_effect(rule: u8, t: tables::Tables, homes: &[u8; 127], doms: &[u32;
         }
     }
     found
+}
+
+// The first broken rule over effects, at its first place.
+pub fn effect_rules(t: tables::Tables, homes: &[u8; 127], doms: &[u32; 32]) -> Answer
+    requires { ⌜ Held t ⌝ }
+    requires { ⌜ Rows (view t) (now homes) (now doms) ⌝ }
+    ensures { λ r. ⌜ r ≡ answerOf (firstFound (effectFindings (view t))) ⌝ }
+{
+    for i in 0..5 {
+        let rule = EFFECT_RULES[i];
+        if let Found::At(a, b) = first_effect(rule, t, homes, doms) {
+            return Answer {
+                number: rule,
+                first: a as u16,
+                second: b as u16,
+            };
+        }
+    }
+    Answer {
+        number: 0,
+        first: 0,
+        second: 0,
+    }
 }

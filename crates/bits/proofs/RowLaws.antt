@@ -7,18 +7,34 @@ use mathlib.Core.Bool.{Bool, true, false, _&&_, _||_}
 use mathlib.Core.List.{List}
 use native.Mathlib.Decide.{ℕ-discrete, decLt}
 use native.Mathlib.Omega.{arith}
+use native.Mathlib.Nat.{not-suc-le-zero, le-of-suc-le-suc}
 use lib.Dec.{T, eqb}
 use lib.ListN.{length, getD, set, length-set, replicate, length-replicate}
-use lib.Seq.{getD-set-same, getD-set-other}
+use lib.Seq.{ext-getD, getD-set-same, getD-set-other}
 use lib.Pow.{pow-lt, pow-pos}
 use lib.Bits.{bitAnd, bitOr, or-lt, and-le-l}
 use borrow.Author.Tests.{lt-ltb, le-ltb, eq-eqb, ne-eqb}
 use Rattle.meaning.proofs.Bools.{both, and, either, or-left, or-right, true-passes, false-fails, Decides, decides-as, decides-eq, decides-lt, decides-and, decides-not, decides-same}
-use Rattle.bits.specs.Arrays.{listed}
 use Rattle.bits.specs.Bit.{bit, number}
-use Rattle.bits.specs.Rows.{words, among, orAt, narrow, rowBit, wide, joinWord, joinRow, addBit, meetRow}
-use Rattle.bits.proofs.ArrayLaws.{length-listed, getD-listed, listed-of}
+use Rattle.bits.specs.Rows.{listed, words, among, orAt, narrow, rowBit, wide, joinFrom, addBit, meetRow}
 use Rattle.bits.proofs.BitLaws.{bit-or, bit-and, bit-zero, bit-pow, fixed, number-lt, bit-number, some-bit}
+
+-- ---- listed
+
+pub length-listed : {A : Type 0} (n : ℕ) (f : ℕ → A) → length (listed n f) ≡ n
+unfolding listed
+length-listed zero f = refl
+length-listed (suc n) f = ap suc (length-listed n (λ (i : ℕ). f (suc i)))
+
+pub getD-listed : {A : Type 0} (n : ℕ) (f : ℕ → A) (i : ℕ) (d : A) → i < n → getD (listed n f) i d ≡ f i
+unfolding listed
+getD-listed zero f i d h = absurd (not-suc-le-zero h)
+getD-listed (suc n) f zero d h = refl
+getD-listed (suc n) f (suc i) d h = getD-listed n (λ (i : ℕ). f (suc i)) i d (le-of-suc-le-suc h)
+
+pub listed-of : {A : Type 0} (n : ℕ) (f : ℕ → A) (d : A) (l : List A) → length l ≡ n → ((i : ℕ) → i < n → getD l i d ≡ f i) → l ≡ listed n f
+listed-of n f d l e at =
+    ext-getD d l (listed n f) (e ∙ sym (length-listed n f)) (λ i h. let h′ : i < n = omega arith in at i h′ ∙ sym (getD-listed n f i d h′))
 
 -- ---- words
 
@@ -141,10 +157,10 @@ module _ (ws : List ℕ) (long : length ws ≡ 254) where
       (λ e. (ap₂ (λ (u v : ℕ). 2 * u + v / 64) (e .0) (e .1), ap (λ (v : ℕ). v % 64) (sym (e .1)))))
       (decides-and (decides-eq x a) (decides-eq y b)))
 
-  module _ (a s : ℕ) (ha : a < 127) (hs : s < 127) where
+  module _ (xs : List ℕ) (a s : ℕ) (ha : a < 127) where
     -- the low words joined, and what that leaves as it was
     half : List ℕ
-    half = joinWord (2 * a) (2 * s) ws
+    half = orAt ws (2 * a) (getD xs (2 * s) 0)
 
     long-half : length half ≡ 254
     unfolding half
@@ -154,30 +170,30 @@ module _ (ws : List ℕ) (long : length ws ≡ 254) where
     unfolding half
     odd x = getD-set-other ws (2 * a) (2 * x + 1) _ 0 (λ e. omega arith)
 
-    in-low : (x d : ℕ) → bit (getD (joinRow a s ws) (2 * x) 0) d ≡ (bit (getD ws (2 * x) 0) d || (eqb x a && bit (getD ws (2 * s) 0) d))
+    in-low : (x d : ℕ) → bit (getD (joinFrom xs a s ws) (2 * x) 0) d ≡ (bit (getD ws (2 * x) 0) d || (eqb x a && bit (getD xs (2 * s) 0) d))
     unfolding half
     in-low x d =
-        or-bit half (2 * a + 1) (getD half (2 * s + 1) 0) (omega (arith, long-half)) (2 * x) d
+        or-bit half (2 * a + 1) (getD xs (2 * s + 1) 0) (omega (arith, long-half)) (2 * x) d
         ∙ rw (ne-eqb (2 * x) (2 * a + 1) (λ e. omega arith), or-none)
-        (or-bit ws (2 * a) (getD ws (2 * s) 0) (omega arith) (2 * x) d ∙ rw (one-for-one (λ (u : ℕ). 2 * u) x a (λ e. omega arith)))
+        (or-bit ws (2 * a) (getD xs (2 * s) 0) (omega arith) (2 * x) d ∙ rw (one-for-one (λ (u : ℕ). 2 * u) x a (λ e. omega arith)))
 
-    in-high : (x d : ℕ) → bit (getD (joinRow a s ws) (2 * x + 1) 0) d ≡ (bit (getD ws (2 * x + 1) 0) d || (eqb x a && bit (getD ws (2 * s + 1) 0) d))
+    in-high : (x d : ℕ) → bit (getD (joinFrom xs a s ws) (2 * x + 1) 0) d ≡ (bit (getD ws (2 * x + 1) 0) d || (eqb x a && bit (getD xs (2 * s + 1) 0) d))
     unfolding half
-    in-high x d = or-bit half (2 * a + 1) (getD half (2 * s + 1) 0) (omega (arith, long-half)) (2 * x + 1) d ∙ rw (odd x, odd s, one-for-one (λ (u : ℕ). 2 * u + 1) x a (λ e. omega arith))
+    in-high x d = or-bit half (2 * a + 1) (getD xs (2 * s + 1) 0) (omega (arith, long-half)) (2 * x + 1) d ∙ rw (odd x, one-for-one (λ (u : ℕ). 2 * u + 1) x a (λ e. omega arith))
 
-    pub join-row : (x y : ℕ) → y < 128 → rowBit (joinRow a s ws) x y ≡ (rowBit ws x y || (eqb x a && rowBit ws s y))
+    pub join-row : (x y : ℕ) → y < 128 → rowBit (joinFrom xs a s ws) x y ≡ (rowBit ws x y || (eqb x a && rowBit xs s y))
     join-row x y hy = on (decLt y 64)
       where
-        on : Dec (y < 64) → rowBit (joinRow a s ws) x y ≡ (rowBit ws x y || (eqb x a && rowBit ws s y))
-        on (yes l) = rw (row-low (joinRow a s ws) x y l, row-low ws x y l, row-low ws s y l) (in-low x y)
+        on : Dec (y < 64) → rowBit (joinFrom xs a s ws) x y ≡ (rowBit ws x y || (eqb x a && rowBit xs s y))
+        on (yes l) = rw (row-low (joinFrom xs a s ws) x y l, row-low ws x y l, row-low xs s y l) (in-low x y)
         on (no l) =
             let e : y ≡ 64 + (y - 64) = omega arith in
             let h : y - 64 < 64 = omega arith in
-            rw (e, row-high (joinRow a s ws) x (y - 64) h, row-high ws x (y - 64) h, row-high ws s (y - 64) h) (in-high x (y - 64))
+            rw (e, row-high (joinFrom xs a s ws) x (y - 64) h, row-high ws x (y - 64) h, row-high xs s (y - 64) h) (in-high x (y - 64))
 
 -- ---- rows with a bit in common
 
-module _ (xs ys : List ℕ) (z : Sized 64 254 xs) (a b : ℕ) (ha : a < 127) where
+module _ (xs ys : List ℕ) (long : length xs ≡ 254) (small : Small 64 xs) (a b : ℕ) (ha : a < 127) where
   -- the two words at i and j have the bit d in common; so do the low or the high words of the rows
   abbrev shared : ℕ → ℕ → ℕ → Bool
   shared i j d = bit (getD xs i 0) d && bit (getD ys j 0) d
@@ -197,10 +213,10 @@ module _ (xs ys : List ℕ) (z : Sized 64 254 xs) (a b : ℕ) (ha : a < 127) whe
 
   common-lt : common < 2 ^ 64
   unfolding common
-  common-lt = or-lt 64 _ _ (part (2 * a) (2 * b) (omega (arith, z .long))) (part (2 * a + 1) (2 * b + 1) (omega (arith, z .long)))
+  common-lt = or-lt 64 _ _ (part (2 * a) (2 * b) (omega arith)) (part (2 * a + 1) (2 * b + 1) (omega arith))
     where
       part : (i j : ℕ) → i < length xs → bitAnd (getD xs i 0) (getD ys j 0) < 2 ^ 64
-      part i j h = omega (arith, and-le-l (getD xs i 0) (getD ys j 0), z .small i h)
+      part i j h = omega (arith, and-le-l (getD xs i 0) (getD ys j 0), small i h)
 
   abbrev Common : Type 0
   Common = (j : ℕ) × (j < 128) × T (rowBit xs a j) × T (rowBit ys b j)
@@ -232,19 +248,15 @@ pub add-sized : (a b : ℕ) (ws : List ℕ) → a < 127 → b < 128 → Sized 64
 unfolding addBit
 add-sized a b ws h l z = or-sized ws (2 * a + b / 64) (2 ^ (b % 64)) (omega (arith, z .long)) 64 254 (pow-lt {i = b % 64} {j = 64} (omega arith)) z
 
-pub join-sized : (a s : ℕ) (ws : List ℕ) → a < 127 → s < 127 → Sized 64 254 ws → Sized 64 254 (joinRow a s ws)
-join-sized a s ws h l z = word (2 * a + 1) (2 * s + 1) (joinWord (2 * a) (2 * s) ws) (omega arith) (omega arith) (word (2 * a) (2 * s) ws (omega arith) (omega arith) z)
+pub join-sized : (xs : List ℕ) (a s : ℕ) (ws : List ℕ) → a < 127 → s < 127 → Sized 64 254 xs → Sized 64 254 ws → Sized 64 254 (joinFrom xs a s ws)
+join-sized xs a s ws h l x z = word (2 * a + 1) (2 * s + 1) (omega arith) (omega arith) _ (word (2 * a) (2 * s) (omega arith) (omega arith) ws z)
   where
-    word : (i j : ℕ) (ws : List ℕ) → i < 254 → j < 254 → Sized 64 254 ws → Sized 64 254 (joinWord i j ws)
-    word i j ws h l z = or-sized ws i (getD ws j 0) (omega (arith, z .long)) 64 254 (z .small j (omega (arith, z .long))) z
+    word : (i j : ℕ) → i < 254 → j < 254 → (ws : List ℕ) → Sized 64 254 ws → Sized 64 254 (orAt ws i (getD xs j 0))
+    word i j h l ws z = or-sized ws i (getD xs j 0) (omega (arith, z .long)) 64 254 (x .small j (omega (arith, x .long))) z
 
 pub wide-sized : (n : ℕ) (f : ℕ → ℕ → Bool) → Sized 64 254 (wide n f)
 unfolding wide
 wide-sized n f = words-sized 64 254 (there n f)
-
--- a test decides that it passes
-pub decides-itself : (b : Bool) → Decides b (T b)
-decides-itself b = record { sound = λ t. t; complete = λ t. t }
 
 -- a relation between numbers below n is asked there alone
 pub decides-among : (n : ℕ) {f : ℕ → ℕ → Bool} {F : ℕ → ℕ → Type 0} → ((a b : ℕ) → Decides (f a b) (F a b)) → (a b : ℕ) → Decides (among n f a b) ((a < n) × (b < n) × F a b)

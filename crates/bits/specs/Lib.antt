@@ -1,4 +1,3 @@
 pub mod Bit
-pub mod Fold
-pub mod Arrays
 pub mod Rows
+pub mod Fold

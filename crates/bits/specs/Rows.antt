@@ -1,13 +1,17 @@
 -- Rows of bits as lists of words: each relation on small numbers has one list.
 -- Assumes nothing.
-use Prim.Native.Nat.{ℕ, _+_, _*_, _/_, _%_, _^_}
+use Prim.Native.Nat.{ℕ, zero, suc, _+_, _*_, _/_, _%_, _^_}
 use mathlib.Core.Bool.{Bool, _&&_, not}
-use mathlib.Core.List.{List}
+use mathlib.Core.List.{List, [], _∷_}
 use lib.Dec.{eqb, ltb}
 use lib.ListN.{getD, set}
 use lib.Bits.{bitAnd, bitOr}
-use Rattle.bits.specs.Arrays.{listed}
 use Rattle.bits.specs.Bit.{bit, number}
+
+-- f 0, f 1, .., f (n - 1)
+unfoldable pub listed : {A : Type 0} → ℕ → (ℕ → A) → List A
+listed zero f = []
+listed (suc n) f = f 0 ∷ listed n (λ (i : ℕ). f (suc i))
 
 -- n words of w bits, the word i with the digits f i
 unfoldable pub words : ℕ → ℕ → (ℕ → ℕ → Bool) → List ℕ
@@ -35,12 +39,12 @@ rowBit ws a b = bit (getD ws (2 * a + b / 64) 0) (b % 64)
 unfoldable pub wide : ℕ → (ℕ → ℕ → Bool) → List ℕ
 wide n f = words 64 254 (λ (i j : ℕ). among n f (i / 2) (64 * (i % 2) + j))
 
--- word i, or'ed with word j; row a, or'ed with row s
-abbrev pub joinWord : ℕ → ℕ → List ℕ → List ℕ
-joinWord i j ws = orAt ws i (getD ws j 0)
+-- row a, or'ed with row s of xs; with row s of its own
+abbrev pub joinFrom : List ℕ → ℕ → ℕ → List ℕ → List ℕ
+joinFrom xs a s ws = orAt (orAt ws (2 * a) (getD xs (2 * s) 0)) (2 * a + 1) (getD xs (2 * s + 1) 0)
 
 abbrev pub joinRow : ℕ → ℕ → List ℕ → List ℕ
-joinRow a s ws = joinWord (2 * a + 1) (2 * s + 1) (joinWord (2 * a) (2 * s) ws)
+joinRow a s ws = joinFrom ws a s ws
 
 -- the bit b of row a set
 unfoldable pub addBit : ℕ → ℕ → List ℕ → List ℕ

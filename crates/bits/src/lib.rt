@@ -4,7 +4,7 @@ ghost use mathlib.Core.Path.{_≡_};
 ghost use Prim.Native.Nat.{_^_, _<_};
 ghost use lib.ListN.{getD};
 ghost use Rattle.bits.specs.Bit.{bit};
-ghost use Rattle.bits.specs.Rows.{orAt, rowBit, addBit, joinRow, meetRow};
+ghost use Rattle.bits.specs.Rows.{orAt, rowBit, addBit, joinFrom, joinRow, meetRow};
 
 // One shifted and masked bit.
 pub fn has(rows: &[u32; 32], e: usize, d: usize) -> bool
@@ -50,9 +50,20 @@ pub fn wide_join(rows: &mut [u64; 254], a: usize, s: usize)
     ensures { λ _. ⌜ now (rows .exit) ≡ joinRow a s (now (rows .entry)) ⌝ }
 {
     let i = 2 * a;
-    let j = 2 * s;
-    rows[i] = rows[i] | rows[j];
-    rows[i + 1] = rows[i + 1] | rows[j + 1];
+    let low = rows[2 * s];
+    let high = rows[2 * s + 1];
+    rows[i] = rows[i] | low;
+    rows[i + 1] = rows[i + 1] | high;
+}
+
+// Row a gets the bits of row s of xs.
+pub fn wide_join_from(rows: &mut [u64; 254], a: usize, xs: &[u64; 254], s: usize)
+    requires { ⌜ (a < 127) × (s < 127) ⌝ }
+    ensures { λ _. ⌜ now (rows .exit) ≡ joinFrom (now (xs .entry)) a s (now (rows .entry)) ⌝ }
+{
+    let i = 2 * a;
+    rows[i] = rows[i] | xs[2 * s];
+    rows[i + 1] = rows[i + 1] | xs[2 * s + 1];
 }
 
 // Whether row a of xs and row b of ys have a bit in common.

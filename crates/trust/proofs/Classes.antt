@@ -19,28 +19,17 @@ use Rattle.tables.specs.Pack.{packClass}
 use Rattle.tables.specs.Held.{Held}
 use Rattle.tables.proofs.Pack.{pad-at}
 use Rattle.tables.proofs.Views.{held-classes}
-use Rattle.bits.specs.Arrays.{storeAt}
-use Rattle.bits.specs.Fold.{upTo}
-use Rattle.bits.proofs.ArrayLaws.{filled, stored-before}
-use Rattle.trust.specs.Relations.{homeList}
+use Rattle.bits.specs.Fold.{upTo, storeAt}
+use Rattle.bits.proofs.FillLaws.{stored-before}
 use Rattle.trust.specs.Filling.{blank, superOr, superAt}
 
 module _ (t : Tables) (h : Held t) where
   pub few-classes : t .classes .n ≤ 127
   few-classes = let held = held-classes t h in omega (arith, held .few, held .count)
 
-  -- the class at a place, and behind the last
+  -- the class at a place
   class-at : (c : ℕ) → c < t .classes .n → getD (t .classes .at) c blank ≡ packClass (classAt (view t) c)
   class-at c l = let held = held-classes t h in held .at c blank (omega (arith, held .count))
-
-  no-class : (c : ℕ) → t .classes .n ≤ c → classAt (view t) c ≡ noClass
-  no-class c l = let held = held-classes t h in List·getD-eq-default (view t .classes) noClass (omega (arith, held .count))
-
-  pub homes-are : upTo (t .classes .n) (storeAt (λ (i : ℕ). getD (t .classes .at) i blank .domain)) (replicate 127 0) ≡ homeList (view t)
-  unfolding homeList home
-  homes-are =
-      filled (λ (i : ℕ). getD (t .classes .at) i blank .domain) 127 0 (t .classes .n) (home (view t)) few-classes
-      (λ i l. ap (λ x. x .domain) (class-at i l)) (λ i l. sym (ap (λ x. x .domain) (no-class i l)))
 
   -- ---- the four places of a class
 

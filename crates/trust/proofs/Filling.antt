@@ -16,12 +16,12 @@ use Rattle.meaning.specs.Lists.{In}
 use Rattle.meaning.specs.Tables.{Package, supersOf}
 use Rattle.meaning.specs.Good.{Good}
 use Rattle.meaning.specs.Trust.{Subtype}
-use Rattle.meaning.proofs.Bools.{Decides, decides-as, decides-and, decides-or, decides-same}
+use Rattle.meaning.proofs.Bools.{Decides, decides-test, decides-as, decides-and, decides-or, decides-same}
 use Rattle.meaning.proofs.Lists.{decides-anyBelow}
 use Rattle.meaning.proofs.Trust.{decides-subtype, good-rising, subtype-le}
 use Rattle.bits.specs.Rows.{rowBit, among, wide}
 use Rattle.bits.specs.Fold.{upTo}
-use Rattle.bits.proofs.RowLaws.{Sized, join-row, join-sized, wide-bit, wide-of, wide-sized, decides-itself, decides-among}
+use Rattle.bits.proofs.RowLaws.{Sized, join-row, join-sized, wide-bit, wide-of, wide-sized, decides-among}
 use Rattle.trust.specs.Relations.{above}
 use Rattle.trust.specs.Filling.{joinSuper, fillAt}
 
@@ -58,9 +58,9 @@ module _ (k : ℕ) (hk : k < 127) (ss : List ℕ) (low : (j : ℕ) → j < 4 →
   unfolding joinSuper
   next j r l a =
       record {
-        sized = join-sized k (at j) r hk q (a .sized);
-        others = λ x b u h. join-row r (a .sized .long) k (at j) hk q x b h ∙ rw (ne-eqb x k u, or-none) (a .others x b u h);
-        own = λ b h. rw (join-row r (a .sized .long) k (at j) hk q k b h, eq-eqb k k refl) (on b h (eq-or-lt-of-le (low j l)));
+        sized = join-sized r k (at j) r hk q (a .sized) (a .sized);
+        others = λ x b u h. join-row r (a .sized .long) r k (at j) hk x b h ∙ rw (ne-eqb x k u, or-none) (a .others x b u h);
+        own = λ b h. rw (join-row r (a .sized .long) r k (at j) hk k b h, eq-eqb k k refl) (on b h (eq-or-lt-of-le (low j l)));
       }
     where
       q : at j < 127
@@ -93,11 +93,11 @@ module _ (k : ℕ) (hk : k < 127) (ss : List ℕ) (low : (j : ℕ) → j < 4 →
 
       on : (b : ℕ) → b < 128 → (at j ≡ k) ⊎ (at j < k) → Decides (rowBit r k b || rowBit r (at j) b) (Joins (suc j) b)
       on b h (inl e) = rw e (decides-as (decides-or (a .own b h) (a .own b h)) (⊎-elim (more b) (more b)) (λ v. inl (same b e v)))
-      on b h (inr m) = rw (a .others (at j) b (λ e. omega arith) h) (decides-as (decides-or (a .own b h) (decides-itself (rowBit s (at j) b))) (new b m) (old b))
+      on b h (inr m) = rw (a .others (at j) b (λ e. omega arith) h) (decides-as (decides-or (a .own b h) (decides-test (rowBit s (at j) b))) (new b m) (old b))
 
   joins : (j : ℕ) → j ≤ 4 → Joined j (upTo j (joinSuper ss k) s)
   unfolding upTo
-  joins zero h = record { sized = z; others = λ x b u l. refl; own = λ b l. decides-as (decides-itself (rowBit s k b)) inl (⊎-elim (λ t. t) (λ w. absurd (not-suc-le-zero (w .1)))) }
+  joins zero h = record { sized = z; others = λ x b u l. refl; own = λ b l. decides-as (decides-test (rowBit s k b)) inl (⊎-elim (λ t. t) (λ w. absurd (not-suc-le-zero (w .1)))) }
   joins (suc j) h = next j (upTo j (joinSuper ss k) s) h (joins j (omega arith))
 
 -- ---- all classes
@@ -154,7 +154,7 @@ module _ {P : Package} {n : ℕ} {ss : List ℕ} (places : Places P n ss) (rs : 
 
 pub decides-above : (P : Package) → Good P → (f : ℕ → ℕ → Bool) (c b : ℕ) → Decides (above P f c b) ((a : ℕ) × (a < length (P .classes)) × (Subtype P c a × T (f a b)))
 unfolding above
-decides-above P g f c b = decides-anyBelow (λ a. decides-and (decides-subtype P (good-rising P g) c a) (decides-itself (f a b))) (length (P .classes))
+decides-above P g f c b = decides-anyBelow (λ a. decides-and (decides-subtype P (good-rising P g) c a) (decides-test (f a b))) (length (P .classes))
 
 module _ (P : Package) (g : Good P) (ss : List ℕ) (places : Places P (length (P .classes)) ss) (f : ℕ → ℕ → Bool) where
   abbrev n : ℕ
@@ -164,7 +164,7 @@ module _ (P : Package) (g : Good P) (ss : List ℕ) (places : Places P (length (
   done = fills places (wide n f) (wide-sized n f) n (le-refl n)
 
   was : (a b : ℕ) → a < n → b < 128 → Decides (rowBit (wide n f) a b) ((a < n) × (b < n) × T (f a b))
-  was a b h l = rw (wide-bit n f a b (omega (arith, places .few)) l) (decides-among n (λ x y. decides-itself (f x y)) a b)
+  was a b h l = rw (wide-bit n f a b (omega (arith, places .few)) l) (decides-among n (λ x y. decides-test (f x y)) a b)
 
   pub fill-wide : upTo n (fillAt ss) (wide n f) ≡ wide n (above P f)
   fill-wide = wide-of n (above P f) (upTo n (fillAt ss) (wide n f)) (done .sized) (λ c b h l. on c b h l (decLt c n))

@@ -7,7 +7,7 @@ use lib.Dec.{ltb}
 use lib.ListN.{getD}
 use Rattle.tables.specs.declared.Class.{Class}
 use Rattle.bits.specs.Bit.{bit}
-use Rattle.bits.specs.Rows.{addBit, joinRow}
+use Rattle.bits.specs.Rows.{addBit, joinFrom, joinRow}
 use Rattle.bits.specs.Fold.{upTo}
 
 -- what is read behind an array of classes
@@ -33,16 +33,21 @@ fillAt ss c = upTo 4 (joinSuper ss c)
 unfoldable pub ownAt : ℕ → List ℕ → List ℕ
 ownAt a = addBit a a
 
--- neither of the domains of a and b dominates the other, by the dominance rows and the classes' domains
+-- neither of two domains dominates the other
 abbrev pub apartIn : List ℕ → ℕ → ℕ → Bool
 apartIn dom d e = not (bit (getD dom d 0) e) && not (bit (getD dom e 0) d)
 
-abbrev pub suspiciousIn : List ℕ → List ℕ → ℕ → ℕ → Bool
-suspiciousIn dom homes a b = apartIn dom (getD homes a 0) (getD homes b 0)
+-- class c's bit in the row of its domain
+unfoldable pub layAt : List ℕ → ℕ → List ℕ → List ℕ
+layAt homes c = addBit (getD homes c 0) c
 
--- the bit b of row a where the test passes; so for each b < n
-unfoldable pub addIf : (ℕ → ℕ → Bool) → ℕ → ℕ → List ℕ → List ℕ
-addIf test a b rs = cond (test a b) (addBit a b rs) rs
+-- the classes of a domain e that is apart from d join d's row; those of all do
+unfoldable pub joinIf : List ℕ → List ℕ → ℕ → ℕ → List ℕ → List ℕ
+joinIf dom lying d e rs = cond (apartIn dom d e) (joinFrom lying d e rs) rs
 
-unfoldable pub gatherAt : (ℕ → ℕ → Bool) → ℕ → ℕ → List ℕ → List ℕ
-gatherAt test n a = upTo n (addIf test a)
+unfoldable pub gatherAt : List ℕ → List ℕ → ℕ → ℕ → List ℕ → List ℕ
+gatherAt dom lying nd d = upTo nd (joinIf dom lying d)
+
+-- the row of a's domain is a's
+unfoldable pub spreadAt : List ℕ → List ℕ → ℕ → List ℕ → List ℕ
+spreadAt homes xs a = joinFrom xs a (getD homes a 0)

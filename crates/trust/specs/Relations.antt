@@ -1,22 +1,22 @@
--- The relations of `meaning` as rows of bits, and the domains of the classes: each is one list.
+-- The relations of `meaning` as rows of bits: each is one list.
 -- Assumes nothing.
-use Prim.Native.Nat.{ℕ}
+use Prim.Native.Nat.{ℕ, _<_}
+use mathlib.Core.Path.{_≡_}
 use mathlib.Core.Bool.{Bool, _&&_}
 use mathlib.Core.List.{List}
-use lib.ListN.{length}
+use lib.ListN.{length, getD}
 use Rattle.meaning.specs.Lists.{anyBelow}
 use Rattle.meaning.specs.Tables.{Package, home}
 use Rattle.meaning.specs.Tests.{dominated, subtype, suspicious}
-use Rattle.bits.specs.Arrays.{listed}
 use Rattle.bits.specs.Rows.{narrow, wide}
 
 -- row e has the bit d where E ► D
 unfoldable pub dominanceRows : Package → List ℕ
 dominanceRows P = narrow (P .domains) (dominated P)
 
--- the domain of each class; 0 behind the last
-unfoldable pub homeList : Package → List ℕ
-homeList P = listed 127 (home P)
+-- these are the domains of the classes
+abbrev pub Homes : Package → List ℕ → Type 0
+Homes P homes = (c : ℕ) → c < length (P .classes) → getD homes c 0 ≡ home P c
 
 -- row a has the bit b where A <: B
 unfoldable pub subtypeRows : Package → List ℕ

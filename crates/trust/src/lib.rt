@@ -4,11 +4,10 @@ ghost use Prim.Native.Nat.{ℕ, _+_, _*_, _<_, _≤_};
 ghost use lib.ListN.{getD, replicate};
 ghost use Rattle.tables.specs.View.{view, zeroPair};
 ghost use Rattle.tables.specs.Held.{Held};
-ghost use Rattle.bits.specs.Fold.{upTo};
-ghost use Rattle.bits.specs.Arrays.{storeAt};
-ghost use Rattle.trust.specs.Relations.{dominanceRows, homeList, subtypeRows, suspicionRows, suspectRows};
+ghost use Rattle.bits.specs.Fold.{upTo, storeAt};
+ghost use Rattle.trust.specs.Relations.{Homes, dominanceRows, subtypeRows, suspicionRows, suspectRows};
 ghost use Rattle.trust.specs.Closing.{startAt, listAt, throughAt};
-ghost use Rattle.trust.specs.Filling.{superOr, superAt, fillAt, ownAt, apartIn, suspiciousIn, gatherAt};
+ghost use Rattle.trust.specs.Filling.{superOr, superAt, fillAt, ownAt, apartIn, layAt, gatherAt, spreadAt};
 
 fn index(x: u8) -> usize
     ensures { λ r. ⌜ r ≡ x ⌝ }
@@ -65,21 +64,6 @@ pub fn dominance(t: tables::Tables) -> [u32; 32]
         through(&mut rows, k, nd);
     }
     rows
-}
-
-// The domain of each class.
-pub fn homes(t: tables::Tables) -> [u8; 127]
-    requires { ⌜ Held t ⌝ }
-    ensures { λ r. ⌜ r ≡ homeList (view t) ⌝ }
-{
-    let cs = t.classes;
-    let n = cs.n;
-    let mut r = [0u8; 127];
-    for c in 0..n {
-        let x = cs.at[c];
-        r[c] = x.domain;
-    }
-    r
 }
 
 // The direct supertype at place j of the class x, whose number is c; c itself where there is none.
@@ -162,33 +146,58 @@ fn apart(dom: &[u32; 32], d: usize, e: usize) -> bool
     !bits::has(dom, e, d)
 }
 
-// Row a gets the bit of each class that is suspicious to a.
-fn gather(dom: &[u32; 32], homes: &[u8; 127], rows: &mut [u64; 254], a: usize, n: usize)
-    requires { ⌜ (a < 127) × (n ≤ 127) ⌝ }
-    requires { ⌜ ((c : ℕ) → getD (now homes) c 0 < 32) ⌝ }
-    ensures { λ _. ⌜ now (rows .exit) ≡ gatherAt (suspiciousIn (now (dom .entry)) (now (homes .entry))) n a (now (rows .entry)) ⌝ }
+// Each class has its bit in the row of its domain.
+fn lay(rows: &mut [u64; 254], homes: &[u8; 127], n: usize)
+    requires { ⌜ n ≤ 127 ⌝ }
+    requires { ⌜ ((c : ℕ) → c < n → getD (now homes) c 0 < 32) ⌝ }
+    ensures { λ _. ⌜ now (rows .exit) ≡ upTo n (layAt (now (homes .entry))) (now (rows .entry)) ⌝ }
 {
-    let d = index(homes[a]);
-    for b in 0..n {
-        if apart(dom, d, index(homes[b])) {
-            bits::wide_add(rows, a, b);
+    for c in 0..n {
+        bits::wide_add(rows, index(homes[c]), c);
+    }
+}
+
+// The row of domain d gets the classes of the domains that are apart from d.
+fn gather(rows: &mut [u64; 254], dom: &[u32; 32], lying: &[u64; 254], d: usize, nd: usize)
+    requires { ⌜ (d < 32) × (nd ≤ 32) ⌝ }
+    ensures { λ _. ⌜ now (rows .exit) ≡ gatherAt (now (dom .entry)) (now (lying .entry)) nd d (now (rows .entry)) ⌝ }
+{
+    for e in 0..nd {
+        if apart(dom, d, e) {
+            bits::wide_join_from(rows, d, lying, e);
         }
     }
 }
 
-// Row a has the bit b exactly where A and B are suspicious.
-pub fn suspicion(t: tables::Tables, dom: &[u32; 32]) -> [u64; 254]
+// The row of each class gets that of its domain.
+fn spread(rows: &mut [u64; 254], homes: &[u8; 127], found: &[u64; 254], n: usize)
+    requires { ⌜ n ≤ 127 ⌝ }
+    requires { ⌜ ((c : ℕ) → c < n → getD (now homes) c 0 < 32) ⌝ }
+    ensures { λ _. ⌜ now (rows .exit) ≡ upTo n (spreadAt (now (homes .entry)) (now (found .entry))) (now (rows .entry)) ⌝ }
+{
+    for a in 0..n {
+        bits::wide_join_from(rows, a, found, index(homes[a]));
+    }
+}
+
+// Row a has the bit b exactly where A and B are suspicious. Suspicion is a matter of domains, so it is found domain by domain.
+pub fn suspicion(t: tables::Tables, homes: &[u8; 127], dom: &[u32; 32]) -> [u64; 254]
     requires { ⌜ Held t ⌝ }
+    requires { ⌜ Homes (view t) (now homes) ⌝ }
     requires { ⌜ now dom ≡ dominanceRows (view t) ⌝ }
     ensures { λ r. ⌜ r ≡ suspicionRows (view t) ⌝ }
 {
-    let h = homes(t);
     let cs = t.classes;
     let n = cs.n;
-    let mut rows = [0u64; 254];
-    for a in 0..n {
-        gather(dom, &h, &mut rows, a, n);
+    let nd = t.domains;
+    let mut lying = [0u64; 254];
+    lay(&mut lying, homes, n);
+    let mut found = [0u64; 254];
+    for d in 0..nd {
+        gather(&mut found, dom, &lying, d, nd);
     }
+    let mut rows = [0u64; 254];
+    spread(&mut rows, homes, &found, n);
     rows
 }
 

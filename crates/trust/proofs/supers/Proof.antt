@@ -3,8 +3,7 @@ use mathlib.Core.Path.{_≡_, refl, _∙_, ap}
 use Prim.Native.Nat.{ℕ, _≤_, _-_, _*_}
 use native.Mathlib.Omega.{arith}
 use lib.ListN.{set, replicate}
-use Rattle.bits.specs.Arrays.{storeAt}
-use Rattle.bits.specs.Fold.{upTo}
+use Rattle.bits.specs.Fold.{upTo, storeAt}
 use Rattle.bits.proofs.FoldLaws.{upTo-none, upTo-turn, upTo-done}
 use Rattle.trust.specs.Filling.{superAt}
 use borrow.Author.Needs.{needs}

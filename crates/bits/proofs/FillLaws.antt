@@ -1,4 +1,4 @@
--- The laws of arrays by their places: what stands at a place, a list is fixed by that, and a loop that stores at each place fills the array.
+-- A loop that stores at each place of an array fills it.
 -- Assumes nothing.
 use Prim.Native.Nat.{ℕ, zero, suc, _≤_, _<_}
 use mathlib.Core.Path.{_≡_, refl, sym, ap, _∙_}
@@ -9,23 +9,9 @@ use native.Mathlib.Omega.{arith}
 use native.Mathlib.Nat.{not-suc-le-zero, le-of-suc-le-suc, eq-or-lt-of-le}
 use lib.ListN.{length, getD, set, length-set, replicate, length-replicate, getD-replicate}
 use lib.Seq.{ext-getD, getD-set-same, getD-set-other}
-use Rattle.bits.specs.Arrays.{listed, storeAt}
-use Rattle.bits.specs.Fold.{upTo}
-
-pub length-listed : {A : Type 0} (n : ℕ) (f : ℕ → A) → length (listed n f) ≡ n
-unfolding listed
-length-listed zero f = refl
-length-listed (suc n) f = ap suc (length-listed n (λ (i : ℕ). f (suc i)))
-
-pub getD-listed : {A : Type 0} (n : ℕ) (f : ℕ → A) (i : ℕ) (d : A) → i < n → getD (listed n f) i d ≡ f i
-unfolding listed
-getD-listed zero f i d h = absurd (not-suc-le-zero h)
-getD-listed (suc n) f zero d h = refl
-getD-listed (suc n) f (suc i) d h = getD-listed n (λ (i : ℕ). f (suc i)) i d (le-of-suc-le-suc h)
-
-pub listed-of : {A : Type 0} (n : ℕ) (f : ℕ → A) (d : A) (l : List A) → length l ≡ n → ((i : ℕ) → i < n → getD l i d ≡ f i) → l ≡ listed n f
-listed-of n f d l e at =
-    ext-getD d l (listed n f) (e ∙ sym (length-listed n f)) (λ i h. let h′ : i < n = omega arith in at i h′ ∙ sym (getD-listed n f i d h′))
+use Rattle.bits.specs.Rows.{listed}
+use Rattle.bits.specs.Fold.{upTo, storeAt}
+use Rattle.bits.proofs.RowLaws.{listed-of}
 
 -- ---- a loop that stores g i at each i < n
 

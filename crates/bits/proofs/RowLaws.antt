@@ -1,6 +1,6 @@
 -- The laws of rows: a bit read, a word or'ed, and a list of words is fixed by its bits.
 -- Assumes nothing.
-use Prim.Native.Nat.{ℕ, zero, suc, _+_, _-_, _*_, _/_, _%_, _^_, _<_}
+use Prim.Native.Nat.{ℕ, zero, suc, _+_, _-_, _*_, _/_, _%_, _^_, _≤_, _<_}
 use mathlib.Core.Path.{_≡_, refl, sym, ap, ap₂, _∙_}
 use mathlib.Core.Logic.{_⊎_, inl, inr}
 use mathlib.Core.Bool.{Bool, true, false, _&&_, _||_}
@@ -193,7 +193,7 @@ module _ (ws : List ℕ) (long : length ws ≡ 254) where
 
 -- ---- rows with a bit in common
 
-module _ (xs ys : List ℕ) (long : length xs ≡ 254) (small : Small 64 xs) (a b : ℕ) (ha : a < 127) where
+module _ (xs ys : List ℕ) (z : Sized 64 254 xs) (a b : ℕ) (ha : a < 127) where
   -- the two words at i and j have the bit d in common; so do the low or the high words of the rows
   abbrev shared : ℕ → ℕ → ℕ → Bool
   shared i j d = bit (getD xs i 0) d && bit (getD ys j 0) d
@@ -213,10 +213,10 @@ module _ (xs ys : List ℕ) (long : length xs ≡ 254) (small : Small 64 xs) (a 
 
   common-lt : common < 2 ^ 64
   unfolding common
-  common-lt = or-lt 64 _ _ (part (2 * a) (2 * b) (omega arith)) (part (2 * a + 1) (2 * b + 1) (omega arith))
+  common-lt = or-lt 64 _ _ (part (2 * a) (2 * b) (omega (arith, z .long))) (part (2 * a + 1) (2 * b + 1) (omega (arith, z .long)))
     where
       part : (i j : ℕ) → i < length xs → bitAnd (getD xs i 0) (getD ys j 0) < 2 ^ 64
-      part i j h = omega (arith, and-le-l (getD xs i 0) (getD ys j 0), small i h)
+      part i j h = omega (arith, and-le-l (getD xs i 0) (getD ys j 0), z .small i h)
 
   abbrev Common : Type 0
   Common = (j : ℕ) × (j < 128) × T (rowBit xs a j) × T (rowBit ys b j)
@@ -257,6 +257,17 @@ join-sized xs a s ws h l x z = word (2 * a + 1) (2 * s + 1) (omega arith) (omega
 pub wide-sized : (n : ℕ) (f : ℕ → ℕ → Bool) → Sized 64 254 (wide n f)
 unfolding wide
 wide-sized n f = words-sized 64 254 (there n f)
+
+-- what is asked of numbers below n is the relation itself
+among-is : (n : ℕ) (f : ℕ → ℕ → Bool) (a b : ℕ) → a < n → b < n → among n f a b ≡ f a b
+unfolding among
+among-is n f a b h l = rw (lt-ltb a n h, lt-ltb b n l)
+
+pub narrow-is : (n : ℕ) (f : ℕ → ℕ → Bool) → n ≤ 32 → (e d : ℕ) → e < n → d < n → bit (getD (narrow n f) e 0) d ≡ f e d
+narrow-is n f few e d h l = narrow-bit n f e d (omega arith) (omega arith) ∙ among-is n f e d h l
+
+pub wide-is : (n : ℕ) (f : ℕ → ℕ → Bool) → n ≤ 127 → (a b : ℕ) → a < n → b < n → rowBit (wide n f) a b ≡ f a b
+wide-is n f few a b h l = wide-bit n f a b (omega arith) (omega arith) ∙ among-is n f a b h l
 
 -- a relation between numbers below n is asked there alone
 pub decides-among : (n : ℕ) {f : ℕ → ℕ → Bool} {F : ℕ → ℕ → Type 0} → ((a b : ℕ) → Decides (f a b) (F a b)) → (a b : ℕ) → Decides (among n f a b) ((a < n) × (b < n) × F a b)

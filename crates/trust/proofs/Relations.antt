@@ -9,7 +9,6 @@ use mathlib.Core.Bool.{Bool}
 use mathlib.Core.List.{List}
 use lib.Dec.{T, eqb, eqb→eq, eqb-refl}
 use lib.ListN.{length, getD, replicate}
-use borrow.Author.Tests.{lt-ltb}
 use Rattle.meaning.specs.Tables.{Package, home}
 use Rattle.meaning.specs.Good.{Good}
 use Rattle.meaning.specs.Tests.{dominated, trusts, suspicious, subtype}
@@ -20,9 +19,9 @@ use Rattle.tables.specs.View.{view}
 use Rattle.tables.specs.Held.{Held}
 use Rattle.tables.proofs.Views.{held-classes}
 use Rattle.bits.specs.Bit.{bit}
-use Rattle.bits.specs.Rows.{rowBit, among, wide}
+use Rattle.bits.specs.Rows.{rowBit, wide}
 use Rattle.bits.specs.Fold.{upTo}
-use Rattle.bits.proofs.RowLaws.{Sized, narrow-bit, wide-of, wide-same, decides-among}
+use Rattle.bits.proofs.RowLaws.{Sized, narrow-is, wide-of, wide-same, decides-among}
 use Rattle.trust.specs.Relations.{Homes, dominanceRows, subtypeRows, suspicionRows, suspectRows, above}
 use Rattle.trust.specs.Filling.{fillAt, ownAt, apartIn, layAt, gatherAt, spreadAt}
 use Rattle.trust.proofs.Classes.{few-classes, places, place-super, super-place}
@@ -40,9 +39,8 @@ module _ (P : Package) (g : Good P) where
   -- ---- suspicion
 
   dominance-bit : (e d : ℕ) → e < P .domains → d < P .domains → bit (getD (dominanceRows P) e 0) d ≡ dominated P e d
-  unfolding dominanceRows among
-  dominance-bit e d h l =
-      narrow-bit (P .domains) (dominated P) e d (omega (arith, g .domains)) (omega (arith, g .domains)) ∙ rw (lt-ltb e (P .domains) h, lt-ltb d (P .domains) l)
+  unfolding dominanceRows
+  dominance-bit = narrow-is (P .domains) (dominated P) (g .domains)
 
   module _ (homes : List ℕ) (are : Homes P homes) where
     pub homes-fit : (c : ℕ) → c < length (P .classes) → getD homes c 0 < P .domains

@@ -39,6 +39,10 @@ isDigit c = (leb 48 c && leb c 57) || (leb 65 c && leb c 70)
 unfoldable pub digit : ℕ → ℕ
 digit c = cond (leb c 57) (c - 48) (c - 55)
 
+-- and back: the digit of a number below 16
+unfoldable pub hexDigit : ℕ → ℕ
+hexDigit n = cond (leb n 9) (48 + n) (55 + n)
+
 -- one byte more in front
 abbrev pub before : ℕ → Option (List ℕ) → Option (List ℕ)
 before b none = none

@@ -1,5 +1,4 @@
 pub mod Cuts
-pub mod Digits
 pub mod Fitting
 pub mod Packed
 pub mod Rows

@@ -3,10 +3,9 @@ ghost use mathlib.Core.Path.{_≡_};
 ghost use Prim.Native.Nat.{_+_, _/_, _%_, _<_};
 ghost use lib.ListN.{length, set};
 ghost use mathlib.Core.Bool.{true};
-ghost use Rattle.meaning.specs.Text.{isDigit, digit};
+ghost use Rattle.meaning.specs.Text.{isDigit, digit, hexDigit};
 ghost use Rattle.meaning.specs.Kinds.{rowOf, follows};
 ghost use Rattle.text.specs.Fits.{kindIn, fitsFrame};
-ghost use Rattle.text.specs.Hex.{hexDigit};
 ghost use Rattle.text.specs.Scan.{noCut, cutAt};
 use crate::kinds::KINDS;
 use crate::kinds::Kind;
@@ -153,7 +152,7 @@ fn hex_digit(x: u8) -> u8
     requires { ⌜ x < 16 ⌝ }
     ensures { λ r. ⌜ r ≡ hexDigit x ⌝ }
 {
-    if x < 10 {
+    if x <= 9 {
         return 48 + x;
     }
     55 + x

@@ -3,7 +3,7 @@
 use native.Mathlib.Omega.{arith}
 use borrow.Author.Tests.{le-leb, lt-leb}
 use Rattle.meaning.specs.Text.{digit}
-use Rattle.text.proofs.Digits.{digit-range}
+use Rattle.meaning.proofs.ReadDigits.{digit-range}
 use Rattle.text.proofs.digit.Statement.{statement}
 use Rattle.text.proofs.digit.Tie as tie
 

@@ -1,8 +1,8 @@
 -- `text::hex_digit` meets its contract: the definition's test is the code's.
 -- Assumes nothing.
 use borrow.Author.Needs.{needs}
-use borrow.Author.Tests.{lt-ltb, le-ltb}
-use Rattle.text.specs.Hex.{hexDigit}
+use borrow.Author.Tests.{le-leb, lt-leb}
+use Rattle.meaning.specs.Text.{hexDigit}
 use Rattle.text.proofs.hex_digit.Statement.{statement}
 use Rattle.text.proofs.hex_digit.Tie as tie
 
@@ -11,14 +11,14 @@ add-result c = search needs
 
 returns : tie.Need-returns
 unfolding hexDigit
-returns c = simp (lt-ltb _ 10 (c .if1 .taken))
+returns c = simp (le-leb _ 9 (c .if1 .taken))
 
 add-result-2 : tie.Need-add-result-2
 add-result-2 c = search needs
 
 returns-2 : tie.Need-returns-2
 unfolding hexDigit
-returns-2 c = simp (le-ltb _ 10 (c .if1 .left))
+returns-2 c = simp (lt-leb _ 9 (c .if1 .left))
 
 pub hex-digit-spec : {M : Type 1} → statement M
 hex-digit-spec = tie.close (tie.spec add-result returns add-result-2 returns-2)

@@ -7,11 +7,10 @@ use mathlib.Core.Logic.{_⊎_, inl, inr}
 use mathlib.Core.Bool.{Bool, true, false, _&&_, not}
 use lib.Dec.{T, eqb, leb, leb→le}
 use borrow.Author.Tests.{eqb-true}
 use Rattle.meaning.specs.Lists.{anyBelow}
-use Rattle.meaning.specs.Text.{isDigit, digit}
+use Rattle.meaning.specs.Text.{isDigit, digit, hexDigit}
 use Rattle.meaning.proofs.Bools.{both, either, true-passes}
 use Rattle.meaning.proofs.Lists.{anyBelow-complete}
-use Rattle.text.specs.Hex.{hexDigit}
 
 pub digit-range : (c : ℕ) → isDigit c ≡ true → (48 ≤ c) × (c ≤ 70)
 unfolding isDigit

@@ -7,7 +7,7 @@ pub struct Kind {
     pub counter: u8,
 }
 
-const NONE: Kind = Kind {
+pub(crate) const NONE: Kind = Kind {
     section: 0,
     size: 0,
     counter: 0,

@@ -9,6 +9,7 @@ ghost use Rattle.text.specs.Fits.{kindIn, fitsFrame};
 ghost use Rattle.text.specs.Scan.{noCut, cutAt};
 use crate::kinds::KINDS;
 use crate::kinds::Kind;
+use crate::kinds::NONE;
 
 pub mod kinds;
 
@@ -37,11 +38,7 @@ pub fn kind_of(b: u8) -> Kind
 {
     let i = wide(b);
     if 48 <= i {
-        return Kind {
-            section: 0,
-            size: 0,
-            counter: 0,
-        };
+        return NONE;
     }
     KINDS[i]
 }

@@ -3,6 +3,7 @@
 use Prim.Native.Nat.{ℕ, zero, suc, _+_, _*_, _≤_, _<_}
 use native.Mathlib.Omega.{arith}
 use mathlib.Core.Path.{_≡_, refl, sym, _∙_, ap, subst, subst₂}
+use mathlib.Core.Logic.{_↔_}
 use mathlib.Core.Bool.{Bool, true, false}
 use mathlib.Core.Option.{Option, none, some}
 use mathlib.Core.List.{List, [], _∷_, _++_, Memᴰ·cast}
@@ -21,13 +22,13 @@ use Rattle.runs.specs.Machine.{State}
 use Rattle.runs.specs.Run.{runFrom}
 use Rattle.runs.specs.Script.{Script, ScriptReading, isScript, isNone, readScript}
 use Rattle.runs.specs.Admitted.{Typed}
-use Rattle.runs.specs.Holdings.{Holding, holding, Holds, holdings, lineOf, textOf, shown, holdingsText}
+use Rattle.runs.specs.Holdings.{Holding, holding, Holds, holdings, lineOf, textOf, shown, holdingsText, Rising}
 use Rattle.runs.specs.Programs.{Told, onlyAnswer, ofOutcome, ofScript, ifAccepted, ofReading, tellOf, write, ifRoom, runOf}
 use Rattle.runs.specs.Reach.{Allowed, Accepted, RunConfined}
 use Rattle.runs.proofs.Typing.{typed-run, within-run}
-use Rattle.runs.proofs.Admits.{Starts, script-starts}
+use Rattle.runs.proofs.Admits.{script-starts}
 use Rattle.runs.proofs.Sorted.{Bytes, in-sorted, line-one}
-use Rattle.runs.proofs.Held.{holdings-bytes, holdings-hold, length-text, text-fits}
+use Rattle.runs.proofs.Held.{holdings-bytes, holdings-hold, shown-holds, shown-rising, length-text, text-fits}
 use Rattle.runs.proofs.Unbroken.{accepted-is}
 use Rattle.runs.proofs.Reached.{reached}
 use Rattle.runs.proofs.Demand.{demand3}
@@ -91,6 +92,21 @@ pub run-told : (p t b : List ℕ) → 7200 ≤ length b → runOf p t b ≡ writ
 unfolding runOf
 run-told p t b l = ap (ifRoom p t b) (le-ltb (length b) 7200 l)
 
+-- ---- what a run text's own run shows: exactly what is held at its end, in rising order
+
+module _ (P : Package) (g : Good P) (t : List ℕ) (S : Script) (f : readScript P t ≡ isScript S) where
+  abbrev end : State
+  end = runFrom P (S .start) 0 (S .steps) .state
+
+  pub run-typed : Typed P end
+  run-typed = let w = script-starts P g t S f in typed-run P g (S .start) (S .steps) (w .steps) (w .start .typed)
+
+  pub run-shows : (d r c : ℕ) → In (holding d r c) (shown P end) ↔ Holds P end d r c
+  run-shows = shown-holds P g end run-typed
+
+  pub run-rises : Rising (shown P end)
+  run-rises = shown-rising P g end run-typed
+
 -- ---- the lines that are written
 
 line-at : (hs : List Holding) (i : ℕ) (rest : List ℕ) → i < length hs → take 9 (drop (9 * i) (textOf hs ++ rest)) ≡ lineOf (getD hs i (holding 0 0 0))
@@ -128,16 +144,12 @@ told-confined {p} {t} (Tells.ran {P = P′} {S = S′} e′ ok f′) b P e S f i
     let eP : P′ ≡ P = same-package p e′ e in
     subst₂ (λ (P : Package) (S : Script). (c′ : ℕ) → Subtype P c c′ → Allowed P (S .start) (S .start .method) d r c′) eP (same-script t eP f′ f) confined
   where
-    starts : Starts P′ S′
-    starts = script-starts P′ (ok .good) t S′ f′
-
     holds : Holds P′ (runFrom P′ (S′ .start) 0 (S′ .steps) .state) d r c
     holds =
-        line-holds P′ (ok .good) (runFrom P′ (S′ .start) 0 (S′ .steps) .state) (typed-run P′ (ok .good) (S′ .start) (S′ .steps) (starts .steps) (starts .start .typed)) _ i (holding d r c)
-        (record { domain = hd; ref = hr; type = hc }) l q
+        line-holds P′ (ok .good) (runFrom P′ (S′ .start) 0 (S′ .steps) .state) (run-typed P′ (ok .good) t S′ f′) _ i (holding d r c) (record { domain = hd; ref = hr; type = hc }) l q
 
     confined : (c′ : ℕ) → Subtype P′ c c′ → Allowed P′ (S′ .start) (S′ .start .method) d r c′
-    confined c′ u = demand3 P′ ok (S′ .start) (starts .start) (S′ .steps) d r c′ (reached holds u)
+    confined c′ u = demand3 P′ ok (S′ .start) (script-starts P′ (ok .good) t S′ f′ .start) (S′ .steps) d r c′ (reached holds u)
 
 pub run-confined : (p t b : List ℕ) → RunConfined p t b
 unfolding runOf

@@ -3,9 +3,9 @@
 use Prim.Native.Nat.{ℕ, suc, _≤_, _<_}
 use native.Mathlib.Nat.{eq-or-lt-of-le}
 use native.Mathlib.Omega.{arith}
-use mathlib.Core.Path.{_≡_, refl, sym}
+use mathlib.Core.Path.{_≡_, sym}
 use mathlib.Core.Logic.{_⊎_, inl, inr}
-use mathlib.Core.Bool.{Bool, true, false, _&&_, _||_, cond}
+use mathlib.Core.Bool.{Bool, true, false, _&&_, _||_, cond, or-false}
 use lib.Dec.{T, eqb, leb, ltb, ltb→lt}
 use lib.ListN.{length}
 use borrow.Author.Tests.{le-leb, lt-leb, eq-eqb, ne-eqb}
@@ -56,10 +56,6 @@ no-field n h u v =
     let d : n ≡ 5 → ⊥ = λ e. v (inr e) in
     omega arith
 
-or-none : (b : Bool) → (b || false) ≡ b
-or-none true = refl
-or-none false = refl
-
 module _ (P : Package) (i : ℕ) where
   pub is-op : (x : ℕ) → x ≤ opOf P i → opOf P i ≤ suc x → isOp P i x (suc x) ≡ true
   unfolding isOp
@@ -79,13 +75,13 @@ module _ (P : Package) (i : ℕ) where
 
   pub read-27 : (opOf P i ≡ 2) ⊎ (opOf P i ≡ 4) → kept (siteOf P i) ≡ breaks27 P i 0
   unfolding breaks27 isOp
-  read-27 (inl e) = rw e (sym (or-none (kept (siteOf P i))))
-  read-27 (inr e) = rw e (sym (or-none (kept (siteOf P i))))
+  read-27 (inl e) = rw (e, or-false)
+  read-27 (inr e) = rw (e, or-false)
 
   pub write-27 : (opOf P i ≡ 3) ⊎ (opOf P i ≡ 5) → kept (fieldClass P (namedBy P i)) ≡ breaks27 P i 0
   unfolding breaks27 isOp
-  write-27 (inl e) = rw e (sym (or-none (kept (fieldClass P (namedBy P i)))))
-  write-27 (inr e) = rw e (sym (or-none (kept (fieldClass P (namedBy P i)))))
+  write-27 (inl e) = rw (e, or-false)
+  write-27 (inr e) = rw (e, or-false)
 
   pub call-27 : 6 ≤ opOf P i → opOf P i ≤ 7 → ofResult (keepsFrom P (siteOf P i) (siteOf P i) (ownerOf P (namedBy P i))) (resultOf P (namedBy P i)) ≡ breaks27 P i 0
   unfolding breaks27 isOp

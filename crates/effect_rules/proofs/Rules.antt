@@ -10,7 +10,7 @@ use mathlib.Core.List.{List}
 use lib.ListN.{getD}
 use borrow.Author.Tests.{eq-eqb, ne-eqb}
 use Rattle.meaning.specs.Tables.{Package, home, labelOf, callerOf, siteOf, opOf, namedBy, ownerOf, resultOf, typeOrNone}
-use Rattle.meaning.specs.Tests.{dominated, trusts, methodTrusts, mates, keepsFrom, ofResult, granted, breaks26, breaks27, breaks28, breaks29, breaks30}
+use Rattle.meaning.specs.Tests.{dominated, trusts, methodTrusts, mates, keepsFrom, ofResult, granted, isOp, breaks26, breaks27, breaks28, breaks29, breaks30}
 use Rattle.bits.specs.Bit.{bit}
 use Rattle.homes.specs.Homes.{Rows, trustsBy, keepsBy}
 use Rattle.homes.proofs.Laws.{home-is, home-small, dominated-is, trusts-is, keeps-is}
@@ -56,14 +56,22 @@ of-result f g e none = refl
 of-result f g e (some c) = e c
 
 module _ {homes doms : List ℕ} {s : Site} {P : Package} {i : ℕ} (a : Seen homes doms s P i) where
-  -- neither op, where both are below it or both above
-  off : (x y : ℕ) → (s .effect .op ≡ x → ⊥) → (s .effect .op ≡ y → ⊥) → (opOf P i ≡ x) ⊎ (opOf P i ≡ y) → ⊥
-  off x y n m (inl e) = n (op-is a ∙ e)
-  off x y n m (inr e) = m (op-is a ∙ e)
+  neither : (x y : ℕ) → (s .effect .op ≡ x → ⊥) → (s .effect .op ≡ y → ⊥) → isOp P i x y ≡ false
+  neither x y n m = no-op P i x y on
+    where
+      on : (opOf P i ≡ x) ⊎ (opOf P i ≡ y) → ⊥
+      on (inl e) = n (op-is a ∙ e)
+      on (inr e) = m (op-is a ∙ e)
+
+  no-call : s .effect .op < 6 → isOp P i 6 7 ≡ false
+  no-call h = neither 6 7 (λ e. omega arith) (λ e. omega arith)
+
+  a-call : 6 ≤ s .effect .op → isOp P i 6 7 ≡ true
+  a-call h = is-op P i 6 (omega (arith, op-is a)) (op-most a)
 
   pub off-26 : 1 < s .effect .op → false ≡ breaks26 P i 0
   unfolding breaks26
-  off-26 h = rw (no-op P i 0 1 (off 0 1 (λ e. omega arith) (λ e. omega arith)))
+  off-26 h = rw (neither 0 1 (λ e. omega arith) (λ e. omega arith))
 
   pub on-26 : s .effect .op ≤ 1 → not (trustsBy homes doms (s .effect .number) (s .caller .class)) ≡ breaks26 P i 0
   unfolding breaks26
@@ -100,22 +108,22 @@ module _ {homes doms : List ℕ} {s : Site} {P : Package} {i : ℕ} (a : Seen ho
 
   pub off-27 : s .effect .op < 2 → false ≡ breaks27 P i 0
   unfolding breaks27
-  off-27 h = rw (no-op P i 2 4 (off 2 4 (λ e. omega arith) (λ e. omega arith)), no-op P i 3 5 (off 3 5 (λ e. omega arith) (λ e. omega arith)), no-op P i 6 7 (off 6 7 (λ e. omega arith) (λ e. omega arith)))
+  off-27 h = rw (neither 2 4 (λ e. omega arith) (λ e. omega arith), neither 3 5 (λ e. omega arith) (λ e. omega arith), no-call (omega arith))
 
   pub off-29 : s .effect .op < 6 → false ≡ breaks29 P i 0
   unfolding breaks29
-  off-29 h = rw (no-op P i 6 7 (off 6 7 (λ e. omega arith) (λ e. omega arith)))
+  off-29 h = rw (no-call h)
 
   pub on-29 : 6 ≤ s .effect .op → not (bit (getD doms (s .called .label) 0) (s .caller .label)) ≡ breaks29 P i 0
   unfolding breaks29 methodTrusts
   on-29 h =
-      rw (is-op P i 6 (omega (arith, op-is a)) (op-most a), ← called-label-is a h, ← label-is a)
+      rw (a-call h, ← called-label-is a h, ← label-is a)
       (ap not (dominated-is (a .rows) (s .called .label) (s .caller .label) (called-label-small a h) (label-small a)))
 
   pub off-30 : (j : ℕ) → s .effect .op < 6 → false ≡ breaks30 P i j
   unfolding breaks30
-  off-30 j h = rw (no-op P i 6 7 (off 6 7 (λ e. omega arith) (λ e. omega arith)))
+  off-30 j h = rw (no-call h)
 
   pub on-30 : (j : ℕ) → 6 ≤ s .effect .op → not (granted P (callerOf P i) (s .caller .class) (s .called .class) (getD (s .called .params) j 0)) ≡ breaks30 P i j
   unfolding breaks30
-  on-30 j h = rw (is-op P i 6 (omega (arith, op-is a)) (op-most a), site-is a, called-class-is a h, param-is a h)
+  on-30 j h = rw (a-call h, site-is a, called-class-is a h, param-is a h)

@@ -1,0 +1,158 @@
+-- What `meaning` says of a frame is what the frame, as it is scanned, is judged to be: refused with that number, or taken.
+-- Assumes nothing.
+use Prim.Native.Nat.{ℕ, suc, _+_, _*_, _≤_, _<_}
+use native.Mathlib.Omega.{arith}
+use mathlib.Core.Path.{_≡_, refl, sym, ap, ap₂, _∙_, subst}
+use mathlib.Core.Bool.{Bool, true, false, _&&_, cond}
+use mathlib.Core.List.{List}
+use lib.Dec.{eqb, leb, ltb, lit<, eqb·suc-zero}
+use lib.ListN.{length, getD, drop, take}
+use lib.Seq.{slice}
+use borrow.Author.Tests.{eq-eqb, ne-eqb, eqb-true, leb-true, ltb-true}
+use Rattle.meaning.specs.Lists.{all}
+use Rattle.meaning.specs.Text.{byte}
+use Rattle.meaning.specs.Kinds.{rowOf, lengthOf, fits}
+use Rattle.meaning.specs.Tables.{Package, fieldAt, methodAt}
+use Rattle.meaning.specs.Reading.{Took, refuses, need, Reader, reader, header, withPair, withClass, withField, withMethod, withEffect, pairOf, classOf, fieldOf, methodOf, effectOf, isDomain, isClass, isType, isMethod, isField, isMethodOf, isNamed, isSlot, isResult, takeHeader, takePair, takeClass, takeField, takeMethod, takeEffect}
+use Rattle.text.specs.Scan.{firstBytes, packFrame}
+use Rattle.frames.specs.declared.effects.Declared.{Declared}
+use Rattle.frames.specs.Judging.{ask, at, below, judgeHeader, judgePair, judgeClass, judgeField, slotIn, judgeMethod, namedIn, judgeEffect}
+use Rattle.text.proofs.Packed.{first-at, first-take}
+use Rattle.text.proofs.Fitting.{fits-packed}
+
+-- t, unless the number refuses it
+unfoldable pub judged : ℕ → Took Reader → Took Reader
+judged x t = cond (eqb x 0) t (refuses x)
+
+pub judged-taken : (x : ℕ) (t : Took Reader) → x ≡ 0 → judged x t ≡ t
+unfolding judged
+judged-taken x t z = rw (eq-eqb x 0 z)
+
+pub judged-refused : (x : ℕ) (t : Took Reader) → (x ≡ 0 → ⊥) → judged x t ≡ refuses x
+unfolding judged
+judged-refused x t z = rw (ne-eqb x 0 z)
+
+-- a test of the definition is the judge's
+module _ (k j : ℕ) (t u : Took Reader) {b d : Bool} (e : b ≡ d) where
+  asked : (b ≡ true → t ≡ judged j u) → need b (suc k) t ≡ judged (ask d (suc k) j) u
+  unfolding ask judged
+  asked h = rw (← e) (on b h)
+    where
+      on : (b : Bool) → (b ≡ true → t ≡ judged j u) → need b (suc k) t ≡ judged (ask b (suc k) j) u
+      on true h = h refl
+      on false h = rw (eqb·suc-zero k)
+
+-- not refused
+passed : (t : Took Reader) → t ≡ judged 0 t
+unfolding judged
+passed t = refl
+
+-- ---- what an effect names
+
+-- d is what the tables P declare, at the number x
+pub record Declares (P : Package) (x : ℕ) (d : Declared) : Type 0 where
+  pub classes : d .classes ≡ length (P .classes)
+  pub fields : d .fields ≡ length (P .fields)
+  pub methods : d .methods ≡ length (P .methods)
+  pub field : x < length (P .fields) → d .field ≡ (fieldAt P x) .static
+  pub method : x < length (P .methods) → d .method ≡ (methodAt P x) .static
+
+-- a declared number's static byte is compared
+static-named : (x n k y z : ℕ) → (x < n → y ≡ z) → (ltb x n && eqb z k) ≡ (ltb x n && eqb y k)
+static-named x n k y z h = on (ltb x n) (λ e. h (ltb-true x n e))
+  where
+    on : (b : Bool) → (b ≡ true → y ≡ z) → (b && eqb z k) ≡ (b && eqb y k)
+    on true e = rw (e refl)
+    on false e = refl
+
+named : (P : Package) (op x : ℕ) (d : Declared) → Declares P x d → isNamed P op x ≡ namedIn d op x
+unfolding isNamed namedIn isType isClass isField isMethodOf
+named P op x d h =
+    rw (h .classes, h .fields, h .methods)
+    (ap (cond (leb op 1) (ltb x (length (P .classes))))
+    (ap₂ (cond (leb op 3)) (static 1)
+    (ap₂ (cond (leb op 5)) (static 0)
+    (ap₂ (cond (eqb op 6)) (method 1) (ap (λ (b : Bool). cond (eqb op 7) b false) (method 0))))))
+  where
+    static : (k : ℕ) → isField P x k ≡ (ltb x (length (P .fields)) && eqb (d .field) k)
+    static k = static-named x (length (P .fields)) k (d .field) ((fieldAt P x) .static) (h .field)
+
+    method : (k : ℕ) → isMethodOf P x k ≡ (ltb x (length (P .methods)) && eqb (d .method) k)
+    method k = static-named x (length (P .methods)) k (d .method) ((methodAt P x) .static) (h .method)
+
+-- ---- the kinds
+
+module _ (f : List ℕ) where
+  -- each byte that a test asks for is among those that are kept
+  kept : (test : ℕ → Bool) (i : ℕ) → i < 16 → test (byte f i) ≡ test (at (packFrame f) i)
+  kept test i h = ap test (sym (first-at 16 f i h))
+
+  -- the length of a frame that fits, by its kind's row
+  pub sized : (k : ℕ) → byte f 0 ≡ k → fits f ≡ true → length f ≡ lengthOf (rowOf k) f
+  unfolding fits
+  sized k e h = subst (λ (b : ℕ). length f ≡ lengthOf (rowOf b) f) e (eqb-true (length f) (lengthOf (rowOf (byte f 0)) f) h)
+
+  -- the counted bytes, where the length is right and there are not too many
+  counted : (test : ℕ → Bool) (d i : ℕ) → length f ≡ d + byte f i → d + byte f i ≤ 16 → i < 16 → all test (drop d f) ≡ all test (slice d (d + at (packFrame f) i) (firstBytes 16 f))
+  counted test d i e l h =
+      rw (first-at 16 f i h, ← e) (ap (λ (t : List ℕ). all test (drop d t)) (sym (first-take 16 f (omega arith))))
+
+  slot-kept : isSlot (byte f 3) (byte f 4 * 256 + byte f 5) ≡ isSlot (at (packFrame f) 3) (slotIn (packFrame f))
+  slot-kept = simp (first-at 16 f 3 (lit< tt), first-at 16 f 4 (lit< tt), first-at 16 f 5 (lit< tt))
+
+  pub header-judged : takeHeader f ≡ judged (judgeHeader (packFrame f)) (reader (header (byte f 1) (byte f 2)) 1)
+  unfolding takeHeader judgeHeader
+  header-judged =
+      asked _ _ _ _ refl (λ _.
+      asked _ _ _ _ (kept (λ (x : ℕ). eqb x 1) 0 (lit< tt)) (λ _.
+      asked _ _ _ _ (kept (leb 1) 2 (lit< tt)) (λ _.
+      asked _ _ _ _ (kept (λ (x : ℕ). leb x 32) 2 (lit< tt)) (λ _.
+      asked _ _ _ _ (kept (λ (x : ℕ). eqb x 2) 1 (lit< tt)) (λ _. passed _)))))
+
+  module _ (P : Package) where
+    pub pair-judged : takePair P f ≡ judged (judgePair (P .domains) (length (P .pairs)) (packFrame f)) (reader (withPair P (pairOf f)) 2)
+    unfolding takePair judgePair isDomain
+    pair-judged =
+        asked _ _ _ _ refl (λ _.
+        asked _ _ _ _ (sym (fits-packed f)) (λ _.
+        asked _ _ _ _ (kept (below (P .domains)) 1 (lit< tt)) (λ _.
+        asked _ _ _ _ (kept (below (P .domains)) 2 (lit< tt)) (λ _. passed _))))
+
+    pub class-judged : byte f 0 ≡ 3 → takeClass P f ≡ judged (judgeClass (P .domains) (length (P .classes)) (packFrame f)) (reader (withClass P (classOf f)) 3)
+    unfolding takeClass judgeClass isDomain isClass lengthOf rowOf
+    class-judged e =
+        asked _ _ _ _ refl (λ _.
+        asked _ _ _ _ (sym (fits-packed f)) (λ h.
+        asked _ _ _ _ (kept (below (P .domains)) 1 (lit< tt)) (λ _.
+        asked _ _ _ _ (kept (λ (x : ℕ). leb x 4) 2 (lit< tt)) (λ k.
+        asked _ _ _ _ (counted (below (length (P .classes))) 3 2 (sized 3 e h) (omega (arith, leb-true (byte f 2) 4 k)) (lit< tt)) (λ _. passed _)))))
+
+    pub field-judged : takeField P f ≡ judged (judgeField (length (P .classes)) (length (P .fields)) (packFrame f)) (reader (withField P (fieldOf f)) 4)
+    unfolding takeField judgeField isClass isType
+    field-judged =
+        asked _ _ _ _ refl (λ _.
+        asked _ _ _ _ (sym (fits-packed f)) (λ _.
+        asked _ _ _ _ (kept (below (length (P .classes))) 1 (lit< tt)) (λ _.
+        asked _ _ _ _ (kept (below (length (P .classes))) 2 (lit< tt)) (λ _.
+        asked _ _ _ _ (kept (λ (x : ℕ). leb x 1) 3 (lit< tt)) (λ _. passed _)))))
+
+    pub method-judged : byte f 0 ≡ 5 → takeMethod P f ≡ judged (judgeMethod (P .domains) (length (P .classes)) (length (P .methods)) (packFrame f)) (reader (withMethod P (methodOf f)) 5)
+    unfolding takeMethod judgeMethod isDomain isClass isType isResult lengthOf rowOf
+    method-judged e =
+        asked _ _ _ _ refl (λ _.
+        asked _ _ _ _ (sym (fits-packed f)) (λ h.
+        asked _ _ _ _ (kept (below (length (P .classes))) 1 (lit< tt)) (λ _.
+        asked _ _ _ _ (kept (below (P .domains)) 2 (lit< tt)) (λ _.
+        asked _ _ _ _ (kept (λ (x : ℕ). leb x 1) 3 (lit< tt)) (λ _.
+        asked _ _ _ _ slot-kept (λ _.
+        asked _ _ _ _ (kept (λ (x : ℕ). isResult P x) 6 (lit< tt)) (λ _.
+        asked _ _ _ _ (kept (λ (x : ℕ). leb x 6) 7 (lit< tt)) (λ k.
+        asked _ _ _ _ (counted (below (length (P .classes))) 8 7 (sized 5 e h) (omega (arith, leb-true (byte f 7) 6 k)) (lit< tt)) (λ _. passed _)))))))))
+
+    pub effect-judged : (d : Declared) → Declares P (byte f 3) d → takeEffect P f ≡ judged (judgeEffect d (length (P .effects)) (packFrame f)) (reader (withEffect P (effectOf f)) 6)
+    unfolding takeEffect judgeEffect isMethod
+    effect-judged d h =
+        asked _ _ _ _ refl (λ _.
+        asked _ _ _ _ (sym (fits-packed f)) (λ _.
+        asked _ _ _ _ (ap (λ (n : ℕ). ltb (byte f 1) n) (sym (h .methods)) ∙ kept (below (d .methods)) 1 (lit< tt)) (λ _.
+        asked _ _ _ _ (named P (byte f 2) (byte f 3) d h ∙ ap₂ (namedIn d) (sym (first-at 16 f 2 (lit< tt))) (sym (first-at 16 f 3 (lit< tt)))) (λ _. passed _))))

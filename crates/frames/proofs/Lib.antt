@@ -1,0 +1,4 @@
+pub mod Tests
+pub mod Packed
+pub mod Judged
+pub mod Elements

@@ -1,0 +1,93 @@
+// 06 mm op xx.
+use crate::bytes;
+use tables::Effect;
+use tables::Effects;
+use text::Frame;
+ghost use mathlib.Core.Path.{_≡_};
+ghost use mathlib.Core.Bool.{_&&_};
+ghost use lib.Dec.{ltb, eqb};
+ghost use Rattle.frames.specs.Judging.{judgeEffect, namedIn};
+ghost use Rattle.frames.specs.Elements.{noEffects, effectIn};
+
+// What is declared: how many classes, fields and methods; and the static bytes of the field and of the method that have the effect's number.
+pub struct Declared {
+    pub classes: usize,
+    pub fields: usize,
+    pub methods: usize,
+    pub field: u8,
+    pub method: u8,
+}
+
+pub fn no_effects() -> Effects
+    ensures { λ r. ⌜ r ≡ noEffects ⌝ }
+{
+    let zero = Effect {
+        method: 0,
+        op: 0,
+        number: 0,
+    };
+    Effects {
+        at: [zero; 1024],
+        n: 0,
+    }
+}
+
+// x is one of n, and has this static byte.
+fn is_static(x: usize, n: usize, stat: u8, want: u8) -> bool
+    ensures { λ r. ⌜ r ≡ (ltb x n && eqb stat want) ⌝ }
+{
+    if n <= x {
+        return false;
+    }
+    stat == want
+}
+
+fn is_named(d: Declared, op: u8, x: usize) -> bool
+    ensures { λ r. ⌜ r ≡ namedIn d op x ⌝ }
+{
+    if op <= 1 {
+        return x < d.classes;
+    }
+    if op <= 3 {
+        return is_static(x, d.fields, d.field, 1);
+    }
+    if op <= 5 {
+        return is_static(x, d.fields, d.field, 0);
+    }
+    if op == 6 {
+        return is_static(x, d.methods, d.method, 1);
+    }
+    if op == 7 {
+        return is_static(x, d.methods, d.method, 0);
+    }
+    false
+}
+
+// With what is declared, and n effects before it.
+pub fn judge_effect(d: Declared, n: usize, f: Frame) -> u8
+    ensures { λ r. ⌜ r ≡ judgeEffect d n f ⌝ }
+{
+    if 1024 <= n {
+        return 8;
+    }
+    if !text::fits(f) {
+        return 6;
+    }
+    if d.methods <= bytes::wide(f.b[1]) {
+        return 7;
+    }
+    if !is_named(d, f.b[2], bytes::wide(f.b[3])) {
+        return 7;
+    }
+    0
+}
+
+pub fn effect_of(f: Frame) -> Effect
+    ensures { λ r. ⌜ r ≡ effectIn f ⌝ }
+{
+    Effect {
+        method: f.b[1],
+        op: f.b[2],
+        number: f.b[3],
+    }
+}

@@ -1,0 +1,46 @@
+// 02 EE DD: E ► D.
+use crate::bytes;
+use tables::Pair;
+use tables::Pairs;
+use text::Frame;
+ghost use mathlib.Core.Path.{_≡_};
+ghost use Rattle.frames.specs.Judging.{judgePair};
+ghost use Rattle.frames.specs.Elements.{noPairs, pairIn};
+
+pub fn no_pairs() -> Pairs
+    ensures { λ r. ⌜ r ≡ noPairs ⌝ }
+{
+    let zero = Pair { low: 0, high: 0 };
+    Pairs {
+        at: [zero; 128],
+        n: 0,
+    }
+}
+
+// With nd domains and n pairs before it.
+pub fn judge_pair(nd: usize, n: usize, f: Frame) -> u8
+    ensures { λ r. ⌜ r ≡ judgePair nd n f ⌝ }
+{
+    if 128 <= n {
+        return 8;
+    }
+    if !text::fits(f) {
+        return 6;
+    }
+    if nd <= bytes::wide(f.b[1]) {
+        return 7;
+    }
+    if nd <= bytes::wide(f.b[2]) {
+        return 7;
+    }
+    0
+}
+
+pub fn pair_of(f: Frame) -> Pair
+    ensures { λ r. ⌜ r ≡ pairIn f ⌝ }
+{
+    Pair {
+        low: f.b[1],
+        high: f.b[2],
+    }
+}

@@ -1,0 +1,10 @@
+pub mod Looks
+pub mod Turns
+pub mod Loops
+pub mod Stores
+pub mod Steps
+pub mod Order
+pub mod Starting
+pub mod Ending
+pub mod Whole
+pub mod Guarantee

@@ -1,0 +1,109 @@
+-- `read_effects` reads its section: the text is read on from the cursor as it was from the section's start, with the list so far in the table.
+-- Assumes nothing.
+use Prim.Native.Nat.{ℕ, _-_, _+_, _<_}
+use native.Mathlib.Omega.{arith}
+use mathlib.Core.Path.{_≡_, _∙_}
+use lib.ListN.{length}
+use borrow.Author.Needs.{needs}
+use borrow.Author.Tests.{not-true, not-false}
+use Rattle.tables.specs.Pack.{packEffects}
+use Rattle.package.specs.Sections.{withEffects, HasDeclared, Going}
+use Rattle.package.proofs.Loops.{going-start, moved-within}
+use Rattle.package.proofs.Stores.{effects-none}
+use Rattle.package.proofs.Steps.{effect-room, effect-refused, effect-on}
+use Rattle.package.proofs.effects.read_effects.Statement.{statement}
+use Rattle.package.proofs.effects.read_effects.Tie as tie
+
+abbrev Inv-loop : tie.InvT-loop
+Inv-loop s nc fields methods x₀ next₀ x next = Going packEffects withEffects (HasDeclared nc fields methods) 6 s next₀ next x
+
+abbrev μ-loop : tie.MeasureT-loop
+μ-loop s nc fields methods x₀ next₀ x next = length s - next .at
+
+no-effects-requires : tie.Need-no-effects-requires Inv-loop μ-loop
+no-effects-requires c κs = search needs
+
+loop-holds : tie.Need-loop-holds Inv-loop μ-loop
+loop-holds c = going-start (c .before .before .pre) (c .no-effects .ensures ∙ effects-none)
+
+line-of-requires : tie.Need-line-of-requires Inv-loop μ-loop
+line-of-requires c κs = search needs
+
+returns : tie.Need-returns Inv-loop μ-loop
+returns c = record { going = c .before .before .loop .inv; past = c .before .line-of .ensures .missing (not-true _ (c .if1 .taken)) }
+
+element-copy-out-wide : tie.Need-element-copy-out-wide Inv-loop μ-loop
+element-copy-out-wide c = search needs
+
+wide-requires : tie.Need-wide-requires Inv-loop μ-loop
+wide-requires c κs = search needs
+
+mul-field : tie.Need-mul-field Inv-loop μ-loop
+mul-field c = search needs
+
+element-copy-out-field : tie.Need-element-copy-out-field Inv-loop μ-loop
+element-copy-out-field c = search needs
+
+mul-method : tie.Need-mul-method Inv-loop μ-loop
+mul-method c = search needs
+
+element-copy-out-method : tie.Need-element-copy-out-method Inv-loop μ-loop
+element-copy-out-method c = search needs
+
+judge-effect-requires : tie.Need-judge-effect-requires Inv-loop μ-loop
+judge-effect-requires c κs = search needs
+
+returns-2 : tie.Need-returns-2 Inv-loop μ-loop
+returns-2 c = effect-refused (c .before .before .before .before .before .before .before .before .before .loop .inv) (c .before .before .before .before .before .before .before .before .line-of .ensures .found (not-false _ (c .before .before .before .before .before .before .before .if1 .left))) _ _ (c .before .before .before .before .wide .ensures .0) (c .before .judge-effect .ensures) (c .if2 .taken)
+
+effect-of-requires : tie.Need-effect-of-requires Inv-loop μ-loop
+effect-of-requires c κs = search needs
+
+room : (c : tie.After-effect-of Inv-loop μ-loop) → c .before .before .before .before .before .before .before .before .before .before .loop .x .n < 1024
+room c = effect-room (c .before .before .before .before .before .before .before .before .before .before .loop .inv) (c .before .before .before .before .before .before .before .before .before .line-of .ensures .found (not-false _ (c .before .before .before .before .before .before .before .before .if1 .left))) _ _ (c .before .before .before .before .before .wide .ensures .0) (c .before .before .judge-effect .ensures) (c .before .if2 .left)
+
+mul-t26 : tie.Need-mul-t26 Inv-loop μ-loop
+mul-t26 c = omega (arith, room c)
+
+element-set-from-x : tie.Need-element-set-from-x Inv-loop μ-loop
+element-set-from-x c = room c
+
+add-x : tie.Need-add-x Inv-loop μ-loop
+add-x c = omega (arith, room c)
+
+add-t26 : tie.Need-add-t26 Inv-loop μ-loop
+add-t26 c = let w = c .before .before .before .before .before .before .before .before .before .before .before .loop .inv .within in omega (arith, w .at, w .line)
+
+loop-less : tie.Need-loop-less Inv-loop μ-loop
+loop-less c =
+    let d = c .before .before .before .before .before .before .before .before .before .before .line-of .ensures .found (not-false _ (c .before .before .before .before .before .before .before .before .before .if1 .left)) in
+    omega (arith, moved-within (c .before .before .before .before .before .before .before .before .before .before .before .loop .inv .within) d .at, d .taken .next)
+
+loop-again : tie.Need-loop-again Inv-loop μ-loop
+loop-again c = effect-on (c .before .before .before .before .before .before .before .before .before .before .before .loop .inv) (c .before .before .before .before .before .before .before .before .before .before .line-of .ensures .found (not-false _ (c .before .before .before .before .before .before .before .before .before .if1 .left))) _ _ (c .before .before .before .before .before .before .wide .ensures .0) (c .before .before .before .judge-effect .ensures) (c .before .effect-of .ensures) (c .before .before .if2 .left)
+
+pub read-effects-spec : {M : Type 1} → statement M
+read-effects-spec =
+    tie.close
+    (tie.spec
+    Inv-loop
+    μ-loop
+    no-effects-requires
+    loop-holds
+    line-of-requires
+    returns
+    element-copy-out-wide
+    wide-requires
+    mul-field
+    element-copy-out-field
+    mul-method
+    element-copy-out-method
+    judge-effect-requires
+    returns-2
+    effect-of-requires
+    mul-t26
+    element-set-from-x
+    add-x
+    add-t26
+    loop-less
+    loop-again)

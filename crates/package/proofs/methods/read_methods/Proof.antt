@@ -1,0 +1,85 @@
+-- `read_methods` reads its section: the text is read on from the cursor as it was from the section's start, with the list so far in the table.
+-- Assumes nothing.
+use Prim.Native.Nat.{ℕ, _-_, _+_, _<_}
+use native.Mathlib.Omega.{arith}
+use mathlib.Core.Path.{_≡_, _∙_}
+use lib.ListN.{length}
+use borrow.Author.Needs.{needs}
+use borrow.Author.Tests.{not-true, not-false}
+use Rattle.tables.specs.Pack.{packMethods}
+use Rattle.package.specs.Sections.{withMethods, HasBoth, Going}
+use Rattle.package.proofs.Loops.{going-start, moved-within}
+use Rattle.package.proofs.Stores.{methods-none}
+use Rattle.package.proofs.Steps.{method-room, method-refused, method-on}
+use Rattle.package.proofs.methods.read_methods.Statement.{statement}
+use Rattle.package.proofs.methods.read_methods.Tie as tie
+
+abbrev Inv-loop : tie.InvT-loop
+Inv-loop s nd nc x₀ next₀ x next = Going packMethods withMethods (HasBoth nd nc) 5 s next₀ next x
+
+abbrev μ-loop : tie.MeasureT-loop
+μ-loop s nd nc x₀ next₀ x next = length s - next .at
+
+no-methods-requires : tie.Need-no-methods-requires Inv-loop μ-loop
+no-methods-requires c κs = search needs
+
+loop-holds : tie.Need-loop-holds Inv-loop μ-loop
+loop-holds c = going-start (c .before .before .pre) (c .no-methods .ensures ∙ methods-none)
+
+line-of-requires : tie.Need-line-of-requires Inv-loop μ-loop
+line-of-requires c κs = search needs
+
+returns : tie.Need-returns Inv-loop μ-loop
+returns c = record { going = c .before .before .loop .inv; past = c .before .line-of .ensures .missing (not-true _ (c .if1 .taken)) }
+
+judge-method-requires : tie.Need-judge-method-requires Inv-loop μ-loop
+judge-method-requires c κs = search needs
+
+returns-2 : tie.Need-returns-2 Inv-loop μ-loop
+returns-2 c = method-refused (c .before .before .before .before .before .loop .inv) (c .before .before .before .before .line-of .ensures .found (not-false _ (c .before .before .before .if1 .left))) (c .before .judge-method .ensures) (c .if2 .taken)
+
+method-of-requires : tie.Need-method-of-requires Inv-loop μ-loop
+method-of-requires c κs = search needs
+
+room : (c : tie.After-method-of Inv-loop μ-loop) → c .before .before .before .before .before .before .loop .x .n < 256
+room c = method-room (c .before .before .before .before .before .before .loop .inv) (c .before .before .before .before .before .line-of .ensures .found (not-false _ (c .before .before .before .before .if1 .left))) (c .before .before .judge-method .ensures) (c .before .if2 .left)
+
+mul-t18 : tie.Need-mul-t18 Inv-loop μ-loop
+mul-t18 c = omega (arith, room c)
+
+element-set-from-x : tie.Need-element-set-from-x Inv-loop μ-loop
+element-set-from-x c = room c
+
+add-x : tie.Need-add-x Inv-loop μ-loop
+add-x c = omega (arith, room c)
+
+add-t18 : tie.Need-add-t18 Inv-loop μ-loop
+add-t18 c = let w = c .before .before .before .before .before .before .before .loop .inv .within in omega (arith, w .at, w .line)
+
+loop-less : tie.Need-loop-less Inv-loop μ-loop
+loop-less c =
+    let d = c .before .before .before .before .before .before .line-of .ensures .found (not-false _ (c .before .before .before .before .before .if1 .left)) in
+    omega (arith, moved-within (c .before .before .before .before .before .before .before .loop .inv .within) d .at, d .taken .next)
+
+loop-again : tie.Need-loop-again Inv-loop μ-loop
+loop-again c = method-on (c .before .before .before .before .before .before .before .loop .inv) (c .before .before .before .before .before .before .line-of .ensures .found (not-false _ (c .before .before .before .before .before .if1 .left))) (c .before .before .before .judge-method .ensures) (c .before .method-of .ensures) (c .before .before .if2 .left)
+
+pub read-methods-spec : {M : Type 1} → statement M
+read-methods-spec =
+    tie.close
+    (tie.spec
+    Inv-loop
+    μ-loop
+    no-methods-requires
+    loop-holds
+    line-of-requires
+    returns
+    judge-method-requires
+    returns-2
+    method-of-requires
+    mul-t18
+    element-set-from-x
+    add-x
+    add-t18
+    loop-less
+    loop-again)

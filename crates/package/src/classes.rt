@@ -1,0 +1,41 @@
+// The section of the lines 03 dd k s..
+use crate::line;
+use crate::line::Cursor;
+use tables::Classes;
+ghost use Rattle.tables.specs.Pack.{packClasses};
+ghost use Rattle.package.specs.Sections.{Within, Section, withClasses, HasDomains};
+
+pub struct ClassesRead {
+    pub next: Cursor,
+    pub classes: Classes,
+}
+
+pub(crate) fn read_classes(s: &[u8], from: Cursor, nd: usize) -> ClassesRead
+    requires { ⌜ Within (now s) from ⌝ }
+    ensures { λ r. ⌜ Section packClasses withClasses (HasDomains nd) 3 (now (s .entry)) from (r .next) (r .classes) ⌝ }
+{
+    let mut x = frames::classes::no_classes();
+    let mut next = from;
+    loop {
+        let cut = line::line_of(s, next, 3);
+        let here = cut.ok;
+        if !here {
+            return ClassesRead { next, classes: x };
+        }
+        let f = cut.frame;
+        let n = x.n;
+        let no = frames::classes::judge_class(nd, n, f);
+        if no != 0 {
+            next.no = no;
+            return ClassesRead { next, classes: x };
+        }
+        x.at[n] = frames::classes::class_of(f);
+        x.n = n + 1;
+        let at = cut.next;
+        next = Cursor {
+            at,
+            line: next.line + 1,
+            no: 0,
+        };
+    }
+}

@@ -1,0 +1,60 @@
+// The section of the lines 06 mm op xx.
+use crate::line;
+use crate::line::Cursor;
+use frames::effects::Declared;
+use tables::Effects;
+use tables::Fields;
+use tables::Methods;
+ghost use Rattle.tables.specs.Pack.{packEffects};
+ghost use Rattle.package.specs.Sections.{Within, Section, withEffects, HasDeclared};
+
+pub struct EffectsRead {
+    pub next: Cursor,
+    pub effects: Effects,
+}
+
+pub(crate) fn read_effects(
+    s: &[u8],
+    from: Cursor,
+    nc: usize,
+    fields: Fields,
+    methods: Methods,
+) -> EffectsRead
+    requires { ⌜ Within (now s) from ⌝ }
+    ensures { λ r. ⌜ Section packEffects withEffects (HasDeclared nc fields methods) 6 (now (s .entry)) from (r .next) (r .effects) ⌝ }
+{
+    let mut x = frames::effects::no_effects();
+    let mut next = from;
+    loop {
+        let cut = line::line_of(s, next, 6);
+        let here = cut.ok;
+        if !here {
+            return EffectsRead { next, effects: x };
+        }
+        let f = cut.frame;
+        let n = x.n;
+        let i = line::wide(f.b[3]);
+        let field = fields.at[i];
+        let method = methods.at[i];
+        let d = Declared {
+            classes: nc,
+            fields: fields.n,
+            methods: methods.n,
+            field: field.stat,
+            method: method.stat,
+        };
+        let no = frames::effects::judge_effect(d, n, f);
+        if no != 0 {
+            next.no = no;
+            return EffectsRead { next, effects: x };
+        }
+        x.at[n] = frames::effects::effect_of(f);
+        x.n = n + 1;
+        let at = cut.next;
+        next = Cursor {
+            at,
+            line: next.line + 1,
+            no: 0,
+        };
+    }
+}

@@ -1,0 +1,52 @@
+// The last line, 07, behind which nothing may stand.
+use crate::line::Cursor;
+ghost use mathlib.Core.Path.{_≡_};
+ghost use mathlib.Core.Option.{none};
+ghost use Rattle.package.specs.Sections.{Within, kindAt, behindEnd, Ended};
+
+// What stands behind the last line: nothing, or a line that is refused.
+fn behind(s: &[u8], at: usize) -> u8
+    ensures { λ r. ⌜ r ≡ behindEnd (now (s .entry)) at ⌝ }
+{
+    if s.len() <= at {
+        return 0;
+    }
+    let cut = text::scan(s, at);
+    let ok = cut.ok;
+    if !ok {
+        return 2;
+    }
+    5
+}
+
+pub(crate) fn read_end(s: &[u8], from: Cursor) -> Cursor
+    requires { ⌜ Within (now s) from × (kindAt (now s) from 6 ≡ none) ⌝ }
+    ensures { λ r. ⌜ Ended (now (s .entry)) from r ⌝ }
+{
+    if from.no != 0 {
+        return from;
+    }
+    let at = from.at;
+    let line = from.line;
+    if s.len() <= at {
+        return Cursor { at, line, no: 9 };
+    }
+    let cut = text::scan(s, at);
+    let ok = cut.ok;
+    if !ok {
+        return Cursor { at, line, no: 2 };
+    }
+    let f = cut.frame;
+    if f.b[0] != 7 {
+        return Cursor { at, line, no: 5 };
+    }
+    if !text::fits(f) {
+        return Cursor { at, line, no: 6 };
+    }
+    let next = cut.next;
+    Cursor {
+        at: next,
+        line: line + 1,
+        no: behind(s, next),
+    }
+}

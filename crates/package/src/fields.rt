@@ -1,0 +1,41 @@
+// The section of the lines 04 cc tt ss.
+use crate::line;
+use crate::line::Cursor;
+use tables::Fields;
+ghost use Rattle.tables.specs.Pack.{packFields};
+ghost use Rattle.package.specs.Sections.{Within, Section, withFields, HasClasses};
+
+pub struct FieldsRead {
+    pub next: Cursor,
+    pub fields: Fields,
+}
+
+pub(crate) fn read_fields(s: &[u8], from: Cursor, nc: usize) -> FieldsRead
+    requires { ⌜ Within (now s) from ⌝ }
+    ensures { λ r. ⌜ Section packFields withFields (HasClasses nc) 4 (now (s .entry)) from (r .next) (r .fields) ⌝ }
+{
+    let mut x = frames::fields::no_fields();
+    let mut next = from;
+    loop {
+        let cut = line::line_of(s, next, 4);
+        let here = cut.ok;
+        if !here {
+            return FieldsRead { next, fields: x };
+        }
+        let f = cut.frame;
+        let n = x.n;
+        let no = frames::fields::judge_field(nc, n, f);
+        if no != 0 {
+            next.no = no;
+            return FieldsRead { next, fields: x };
+        }
+        x.at[n] = frames::fields::field_of(f);
+        x.n = n + 1;
+        let at = cut.next;
+        next = Cursor {
+            at,
+            line: next.line + 1,
+            no: 0,
+        };
+    }
+}

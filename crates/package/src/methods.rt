@@ -1,0 +1,41 @@
+// The section of the lines 05 cc ll ss hh hh rr k p..
+use crate::line;
+use crate::line::Cursor;
+use tables::Methods;
+ghost use Rattle.tables.specs.Pack.{packMethods};
+ghost use Rattle.package.specs.Sections.{Within, Section, withMethods, HasBoth};
+
+pub struct MethodsRead {
+    pub next: Cursor,
+    pub methods: Methods,
+}
+
+pub(crate) fn read_methods(s: &[u8], from: Cursor, nd: usize, nc: usize) -> MethodsRead
+    requires { ⌜ Within (now s) from ⌝ }
+    ensures { λ r. ⌜ Section packMethods withMethods (HasBoth nd nc) 5 (now (s .entry)) from (r .next) (r .methods) ⌝ }
+{
+    let mut x = frames::methods::no_methods();
+    let mut next = from;
+    loop {
+        let cut = line::line_of(s, next, 5);
+        let here = cut.ok;
+        if !here {
+            return MethodsRead { next, methods: x };
+        }
+        let f = cut.frame;
+        let n = x.n;
+        let no = frames::methods::judge_method(nd, nc, n, f);
+        if no != 0 {
+            next.no = no;
+            return MethodsRead { next, methods: x };
+        }
+        x.at[n] = frames::methods::method_of(f);
+        x.n = n + 1;
+        let at = cut.next;
+        next = Cursor {
+            at,
+            line: next.line + 1,
+            no: 0,
+        };
+    }
+}

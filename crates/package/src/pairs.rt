@@ -1,0 +1,41 @@
+// The section of the lines 02 EE DD.
+use crate::line;
+use crate::line::Cursor;
+use tables::Pairs;
+ghost use Rattle.tables.specs.Pack.{packPairs};
+ghost use Rattle.package.specs.Sections.{Within, Section, withPairs, HasDomains};
+
+pub struct PairsRead {
+    pub next: Cursor,
+    pub pairs: Pairs,
+}
+
+pub(crate) fn read_pairs(s: &[u8], from: Cursor, nd: usize) -> PairsRead
+    requires { ⌜ Within (now s) from ⌝ }
+    ensures { λ r. ⌜ Section packPairs withPairs (HasDomains nd) 2 (now (s .entry)) from (r .next) (r .pairs) ⌝ }
+{
+    let mut x = frames::pairs::no_pairs();
+    let mut next = from;
+    loop {
+        let cut = line::line_of(s, next, 2);
+        let here = cut.ok;
+        if !here {
+            return PairsRead { next, pairs: x };
+        }
+        let f = cut.frame;
+        let n = x.n;
+        let no = frames::pairs::judge_pair(nd, n, f);
+        if no != 0 {
+            next.no = no;
+            return PairsRead { next, pairs: x };
+        }
+        x.at[n] = frames::pairs::pair_of(f);
+        x.n = n + 1;
+        let at = cut.next;
+        next = Cursor {
+            at,
+            line: next.line + 1,
+            no: 0,
+        };
+    }
+}

@@ -9,7 +9,7 @@ use native.Mathlib.Decide.{ℕ-discrete, decLt}
 use native.Mathlib.Omega.{arith}
 use native.Mathlib.Nat.{not-suc-le-zero, le-of-suc-le-suc}
 use lib.Dec.{T, eqb}
-use lib.ListN.{length, getD, set, length-set, replicate, length-replicate}
+use lib.ListN.{length, getD, length-set, replicate, length-replicate}
 use lib.Seq.{ext-getD, getD-set-same, getD-set-other}
 use lib.Pow.{pow-lt, pow-pos}
 use lib.Bits.{bitAnd, bitOr, or-lt, and-le-l}
@@ -265,9 +265,6 @@ among-is n f a b h l = rw (lt-ltb a n h, lt-ltb b n l)
 
 pub narrow-is : (n : ℕ) (f : ℕ → ℕ → Bool) → n ≤ 32 → (e d : ℕ) → e < n → d < n → bit (getD (narrow n f) e 0) d ≡ f e d
 narrow-is n f few e d h l = narrow-bit n f e d (omega arith) (omega arith) ∙ among-is n f e d h l
-
-pub wide-is : (n : ℕ) (f : ℕ → ℕ → Bool) → n ≤ 127 → (a b : ℕ) → a < n → b < n → rowBit (wide n f) a b ≡ f a b
-wide-is n f few a b h l = wide-bit n f a b (omega arith) (omega arith) ∙ among-is n f a b h l
 
 -- a relation between numbers below n is asked there alone
 pub decides-among : (n : ℕ) {f : ℕ → ℕ → Bool} {F : ℕ → ℕ → Type 0} → ((a b : ℕ) → Decides (f a b) (F a b)) → (a b : ℕ) → Decides (among n f a b) ((a < n) × (b < n) × F a b)

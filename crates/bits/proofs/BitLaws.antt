@@ -2,7 +2,7 @@
 -- Assumes nothing.
 use Prim.Native.Nat.{ℕ, zero, suc, _+_, _*_, _/_, _%_, _^_, _≤_, suc-le-suc, _<_, max, min}
 use mathlib.Core.Path.{_≡_, refl, sym, ap, ap₂, _∙_}
-use mathlib.Core.Bool.{Bool, true, false, _&&_, _||_, cond}
+use mathlib.Core.Bool.{Bool, true, false, true≢false, _&&_, _||_, cond}
 use native.Mathlib.Nat.{le-refl, div-add-mod', two-pow-succ, mod-lt, one-mul, div-one, mod-eq-of-lt, div-eq-of-lt, zero-lt-suc, zero-add}
 use native.Mathlib.Numerals.{one-add, add-one}
 use native.Mathlib.Decide.{ℕ-discrete, decLt}
@@ -22,24 +22,22 @@ pub bit-masked : (x d : ℕ) → eqb (bitAnd (x / 2 ^ d) 1) 1 ≡ bit x d
 unfolding bit
 bit-masked x d = ap (λ (y : ℕ). eqb y 1) (and-mask (x / 2 ^ d) 1)
 
--- of two digits, the greater is their `|` and the less their `&`
+-- two digits are 0 or 1 each
+digits : (Q : ℕ → ℕ → Type 0) → Q 0 0 → Q 0 1 → Q 1 0 → Q 1 1 → (p q : ℕ) → p < 2 → q < 2 → Q p q
+digits Q a b c d zero zero hp hq = a
+digits Q a b c d zero (suc zero) hp hq = b
+digits Q a b c d (suc zero) zero hp hq = c
+digits Q a b c d (suc zero) (suc zero) hp hq = d
+digits Q a b c d zero (suc (suc q)) hp hq = absurd (omega arith)
+digits Q a b c d (suc zero) (suc (suc q)) hp hq = absurd (omega arith)
+digits Q a b c d (suc (suc p)) q hp hq = absurd (omega arith)
+
+-- the greater is their `|`, the less their `&`
 digit-or : (p q : ℕ) → p < 2 → q < 2 → (max p q < 2) × (eqb (max p q) 1 ≡ (eqb p 1 || eqb q 1))
-digit-or zero zero hp hq = (lit< tt, refl)
-digit-or zero (suc zero) hp hq = (lit< tt, refl)
-digit-or (suc zero) zero hp hq = (lit< tt, refl)
-digit-or (suc zero) (suc zero) hp hq = (lit< tt, refl)
-digit-or zero (suc (suc q)) hp hq = absurd (omega arith)
-digit-or (suc zero) (suc (suc q)) hp hq = absurd (omega arith)
-digit-or (suc (suc p)) q hp hq = absurd (omega arith)
+digit-or = digits (λ p q. (max p q < 2) × (eqb (max p q) 1 ≡ (eqb p 1 || eqb q 1))) (lit< tt, refl) (lit< tt, refl) (lit< tt, refl) (lit< tt, refl)
 
 digit-and : (p q : ℕ) → p < 2 → q < 2 → (min p q < 2) × (eqb (min p q) 1 ≡ (eqb p 1 && eqb q 1))
-digit-and zero zero hp hq = (lit< tt, refl)
-digit-and zero (suc zero) hp hq = (lit< tt, refl)
-digit-and (suc zero) zero hp hq = (lit< tt, refl)
-digit-and (suc zero) (suc zero) hp hq = (lit< tt, refl)
-digit-and zero (suc (suc q)) hp hq = absurd (omega arith)
-digit-and (suc zero) (suc (suc q)) hp hq = absurd (omega arith)
-digit-and (suc (suc p)) q hp hq = absurd (omega arith)
+digit-and = digits (λ p q. (min p q < 2) × (eqb (min p q) 1 ≡ (eqb p 1 && eqb q 1))) (lit< tt, refl) (lit< tt, refl) (lit< tt, refl) (lit< tt, refl)
 
 -- an operation on digits (op on numbers, dig on digits, on on Bools) is one on bits
 module _ (op dig : ℕ → ℕ → ℕ) (on : Bool → Bool → Bool)
@@ -94,13 +92,7 @@ one-shl w k h = ap (λ (z : ℕ). z % 2 ^ w) (one-mul (2 ^ k)) ∙ mod-eq-of-lt 
 -- ---- a number is fixed by its bits
 
 digit-fixed : (p q : ℕ) → p < 2 → q < 2 → eqb p 1 ≡ eqb q 1 → p ≡ q
-digit-fixed zero zero hp hq e = refl
-digit-fixed zero (suc zero) hp hq e = absurd (let z : _≡_ {A = ℕ} 0 1 = cc in omega arith)
-digit-fixed (suc zero) zero hp hq e = absurd (let z : _≡_ {A = ℕ} 0 1 = cc in omega arith)
-digit-fixed (suc zero) (suc zero) hp hq e = refl
-digit-fixed zero (suc (suc q)) hp hq e = absurd (omega arith)
-digit-fixed (suc zero) (suc (suc q)) hp hq e = absurd (omega arith)
-digit-fixed (suc (suc p)) q hp hq e = absurd (omega arith)
+digit-fixed = digits (λ p q. eqb p 1 ≡ eqb q 1 → p ≡ q) (λ e. refl) (λ e. absurd (true≢false (sym e))) (λ e. absurd (true≢false e)) (λ e. refl)
 
 half-lt : (w z : ℕ) → z < 2 ^ suc w → z / 2 < 2 ^ w
 half-lt w z h = shr-lt w 1 (rw (add-one w) h)

@@ -1,7 +1,6 @@
 // The verdict on a package's tables: the rows that the rules look at, made once, and the first broken rule.
 use found::Answer;
 use tables::Tables;
-
 ghost use mathlib.Core.Path.{_≡_};
 ghost use Rattle.found.specs.Found.{answerOf};
 ghost use Rattle.meaning.specs.Check.{verdict};

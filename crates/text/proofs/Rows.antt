@@ -32,11 +32,11 @@ pub table-at : (d : Kind) (k b : ℕ) → k ≡ b → k < 48 → getD (rows 48 0
 table-at d k b e h = rows-at d 48 0 k h ∙ ap (λ (x : ℕ). kindIn (rowOf x)) (omega arith)
 
 -- a row is the unknown one, or one of the table's with this number
-data Row (b : ℕ) : M.Kind → Type 0 where
+pub data Row (b : ℕ) : M.Kind → Type 0 where
   other : Row b unknown
   listed : {k : M.Kind} → In k kinds → k .kind ≡ b → Row b k
 
-row-of : (b : ℕ) → Row b (rowOf b)
+pub row-of : (b : ℕ) → Row b (rowOf b)
 unfolding rowOf
 row-of b = on (first numbered kinds) refl
   where

@@ -69,7 +69,7 @@ insert-old h {y = y} (List·Memᴰ·tail {x = x} {xs = xs} m) = on (puts h x xs 
 
 -- ---- by keys
 
-abbrev KeyRising : List Holding → Type 0
+abbrev pub KeyRising : List Holding → Type 0
 KeyRising [] = Unit {0}
 KeyRising (h ∷ hs) = ((x : Holding) → In x hs → key h < key x) × KeyRising hs
 
@@ -141,7 +141,7 @@ sorted-in (h ∷ hs) bs =
     (insert-new h (sorted hs) (bs h (List·Memᴰ·head refl)) (λ x m. bs x (List·Memᴰ·tail (in-sorted hs m))))
     (λ y m. insert-old h (sorted-in hs (λ x k. bs x (List·Memᴰ·tail k)) y m))
 
-sorted-keys : (hs : List Holding) → KeyRising (sorted hs)
+pub sorted-keys : (hs : List Holding) → KeyRising (sorted hs)
 unfolding sorted
 sorted-keys [] = tt
 sorted-keys (h ∷ hs) = insert-rising h (sorted hs) (sorted-keys hs)

@@ -1,0 +1,85 @@
+-- Lists stored one behind the other, and the keys of holdings behind those that are there.
+-- Assumes nothing.
+use Prim.Native.Nat.{ℕ, suc, _+_, _/_, _%_, _<_}
+use native.Mathlib.Omega.{arith}
+use native.Mathlib.Numerals.{add-one}
+use mathlib.Core.Path.{_≡_, refl, sym, _∙_, subst}
+use mathlib.Core.Logic.{⊎-elim}
+use mathlib.Core.Bool.{Bool, true, false, cond}
+use lib.Dec.{leb, ltb}
+use borrow.Author.Tests.{leb-true, leb-false, lt-ltb, le-ltb}
+use Rattle.text.specs.Hex as T
+use mathlib.Core.List.{List, [], _∷_, _++_, map, append-assoc, append-nil, map-append, List·Memᴰ·not-nil, List·Memᴰ·append-cases, List·Memᴰ·eq-of-singleton}
+use lib.ListN.{length, take, set}
+use lib.Seq.{take-suc-set, sets}
+use Rattle.meaning.specs.Reading.{Answer}
+use Rattle.runs.specs.Holdings.{Holding, key, hexDigit, hex, lineOf}
+use Rattle.runs.specs.Programs.{answerLine}
+use Rattle.runs.proofs.Sorted.{Bytes}
+use Rattle.holdings.specs.Held.{Adds}
+
+-- ---- digits stored one pair behind the other
+
+same-digit : (x : ℕ) → T.hexDigit x ≡ hexDigit x
+unfolding T.hexDigit hexDigit
+same-digit x = on (leb x 9) refl
+  where
+    on : (b : Bool) → leb x 9 ≡ b → cond (ltb x 10) (48 + x) (55 + x) ≡ cond b (48 + x) (55 + x)
+    on true e = rw (lt-ltb x 10 (omega (arith, leb-true x 9 e)))
+    on false e = rw (le-ltb x 10 (omega (arith, leb-false x 9 e)))
+
+sets-append : (xs ys l : List ℕ) (at : ℕ) → sets l at (xs ++ ys) ≡ sets (sets l at xs) (at + length xs) ys
+sets-append [] ys l at = let e : at + 0 ≡ at = omega arith in rw e
+sets-append (x ∷ xs) ys l at = let e : at + suc (length xs) ≡ suc at + length xs = omega arith in rw e (sets-append xs ys (set l at x) (suc at))
+
+-- l′ is l with the two digits of x stored at a place
+abbrev pub Pair : List ℕ → List ℕ → ℕ → ℕ → Type 0
+Pair l l′ at x = l′ ≡ set (set l at (T.hexDigit (x / 16))) (at + 1) (T.hexDigit (x % 16))
+
+-- l′ is l with a text stored at a place: one more byte behind it, or the two digits of one
+module _ (l l′ text : List ℕ) (at : ℕ) (stored : l′ ≡ sets l at text) where
+  byte-more : (n x : ℕ) → n ≡ at + length text → set l′ n x ≡ sets l at (text ++ (x ∷ []))
+  byte-more n x e = rw (e, stored) (sym (sets-append text (x ∷ []) l at))
+
+  pair-more : (l″ : List ℕ) (n x : ℕ) → n ≡ at + length text → Pair l′ l″ n x → l″ ≡ sets l at (text ++ hex x)
+  unfolding hex
+  pair-more l″ n x e p = p ∙ rw (add-one n, same-digit (x / 16), same-digit (x % 16), e, stored) (sym (sets-append text (hex x) l at))
+
+module _ (l l₁ l₂ l₃ l₄ : List ℕ) where
+  pub line-stored : (at : ℕ) (h : Holding) → Pair l l₁ at 0x30 → Pair l₁ l₂ (at + 2) (h .domain) → Pair l₂ l₃ (at + 4) (h .ref) → Pair l₃ l₄ (at + 6) (h .type) → set l₄ (at + 8) 10 ≡ sets l at (lineOf h)
+  unfolding lineOf
+  line-stored at h p₁ p₂ p₃ p₄ =
+      let s₁ = pair-more l l [] at refl l₁ at 0x30 (omega arith) p₁ in
+      let s₂ = pair-more l l₁ (hex 0x30) at s₁ l₂ (at + 2) (h .domain) refl p₂ in
+      let s₃ = pair-more l l₂ (hex 0x30 ++ hex (h .domain)) at s₂ l₃ (at + 4) (h .ref) refl p₃ in
+      let s₄ = pair-more l l₃ (hex 0x30 ++ hex (h .domain) ++ hex (h .ref)) at s₃ l₄ (at + 6) (h .type) refl p₄ in
+      byte-more l l₄ (hex 0x30 ++ hex (h .domain) ++ hex (h .ref) ++ hex (h .type)) at s₄ (at + 8) 10 refl
+
+  module _ (l₅ l₆ : List ℕ) where
+    pub answer-stored : (a : Answer) → Pair l l₁ 0 0x2E → Pair l₁ l₂ 2 (a .number) → Pair l₂ l₃ 4 (a .first / 256) → Pair l₃ l₄ 6 (a .first % 256) → Pair l₄ l₅ 8 (a .second / 256) → Pair l₅ l₆ 10 (a .second % 256) → set l₆ 12 10 ≡ sets l 0 (answerLine a)
+    unfolding answerLine
+    answer-stored a p₁ p₂ p₃ p₄ p₅ p₆ =
+        let t₂ = hex 0x2E ++ hex (a .number) in
+        let t₄ = t₂ ++ hex (a .first / 256) ++ hex (a .first % 256) in
+        let s₁ = pair-more l l [] 0 refl l₁ 0 0x2E refl p₁ in
+        let s₂ = pair-more l l₁ (hex 0x2E) 0 s₁ l₂ 2 (a .number) refl p₂ in
+        let s₃ = pair-more l l₂ t₂ 0 s₂ l₃ 4 (a .first / 256) refl p₃ in
+        let s₄ = pair-more l l₃ (t₂ ++ hex (a .first / 256)) 0 s₃ l₄ 6 (a .first % 256) refl p₄ in
+        let s₅ = pair-more l l₄ t₄ 0 s₄ l₅ 8 (a .second / 256) refl p₅ in
+        let s₆ = pair-more l l₅ (t₄ ++ hex (a .second / 256)) 0 s₅ l₆ 10 (a .second % 256) refl p₆ in
+        byte-more l l₆ (t₄ ++ hex (a .second / 256) ++ hex (a .second % 256)) 0 s₆ 12 10 refl
+
+-- ---- keys of holdings
+
+module _ (at : ℕ) (keys₀ : List ℕ) where
+  pub adds-none : Adds [] at 0 keys₀ keys₀
+  adds-none = record { stored = let e : at + 0 ≡ at = omega arith in rw e (sym (append-nil (take at keys₀))); bytes = λ h m. absurd (List·Memᴰ·not-nil m) }
+
+  pub adds-more : (hs : List Holding) (h : Holding) (n k : ℕ) (keys : List ℕ) → Adds hs at n keys₀ keys → at + n < length keys → k ≡ key h → Bytes h → Adds (hs ++ (h ∷ [])) at (n + 1) keys₀ (set keys (at + n) k)
+  adds-more hs h n k keys a fits e b =
+      record {
+        stored =
+            let q : at + (n + 1) ≡ suc (at + n) = omega arith in
+            rw (q, take-suc-set keys (at + n) k fits, a .stored, map-append key hs (h ∷ []), ← e) (append-assoc (take at keys₀) (map key hs) (k ∷ []));
+        bytes = λ x m. ⊎-elim (a .bytes x) (λ u. subst Bytes (sym (List·Memᴰ·eq-of-singleton u)) b) (List·Memᴰ·append-cases hs m);
+      }

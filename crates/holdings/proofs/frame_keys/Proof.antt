@@ -53,12 +53,12 @@ label-keys-requires-2 : tie.Need-label-keys-requires-2 Inv-loop μ-loop
 label-keys-requires-2 c κs =
     let s = c .before .before .before .before in
     let a = s .before .before .before .before .before .before .before .before in
-    omega (arith, few s (c .before .before .before .loop-test .taken), a .pre, s .loop .inv, s .before .before .before .label-keys .kept .0)
+    omega (arith, few s (omega (arith, c .before .before .before .loop-test .taken)), a .pre, s .loop .inv, s .before .before .before .label-keys .kept .0)
 
 add-count : tie.Need-add-count Inv-loop μ-loop
 add-count c =
     let s = c .before .before .before .before .before .before .before .before in
-    omega (arith, few s (c .before .before .before .before .before .before .before .loop-test .taken), s .loop .inv)
+    omega (arith, few s (omega (arith, c .before .before .before .before .before .before .before .loop-test .taken)), s .loop .inv)
 
 loop-less : tie.Need-loop-less Inv-loop μ-loop
 loop-less c = search needs
@@ -67,7 +67,7 @@ loop-again : tie.Need-loop-again Inv-loop μ-loop
 loop-again c =
     let s = c .before .before .before .before .before .before .before .before in
     let a = s .before .before .before .before .before .before .before .before in
-    let h = c .before .before .before .before .before .before .before .loop-test .taken in (
+    let h : 0 < s .loop .d = omega (arith, c .before .before .before .before .before .before .before .loop-test .taken) in (
       omega (arith, s .loop .inv),
       omega (arith, few s h, s .loop .inv),
       c .before .before .before .label-keys2 .kept .0 ∙ s .loop .inv .2,

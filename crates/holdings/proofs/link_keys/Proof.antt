@@ -56,7 +56,7 @@ loop-again c =
     let fixed : length (a .args .t3) ≡ 256 = search (needs, long) in (
       search needs,
       simp length-set (s .loop .inv .1),
-      rw (view-more (linked (a .args .homes .now)) (s .loop .i) (a .args .t3) noLink (omega arith), ← c .before .home-of .ensures) (adds-more _ _ _ _ _ _ _ (s .loop .inv .2) (omega arith) (c .key-of .ensures .0) (c .key-of .ensures .1)),
+      rw (view-more (linked (a .args .homes .now)) (s .loop .i) (a .args .t3) noLink (omega arith)) (adds-more _ _ _ _ _ _ _ (s .loop .inv .2) (omega arith) (rw (c .before .home-of .ensures) at (c .key-of .ensures .0)) (rw (c .before .home-of .ensures) at (c .key-of .ensures .1))),
     )
 
 same-length : tie.Need-same-length Inv-loop μ-loop

@@ -5,28 +5,17 @@ use native.Mathlib.Omega.{arith}
 use native.Mathlib.Numerals.{add-one}
 use mathlib.Core.Path.{_≡_, refl, sym, _∙_, subst}
 use mathlib.Core.Logic.{⊎-elim}
-use mathlib.Core.Bool.{Bool, true, false, cond}
-use lib.Dec.{leb, ltb}
-use borrow.Author.Tests.{leb-true, leb-false, lt-ltb, le-ltb}
-use Rattle.text.specs.Hex as T
+use Rattle.meaning.specs.Text.{hexDigit}
 use mathlib.Core.List.{List, [], _∷_, _++_, map, append-assoc, append-nil, map-append, List·Memᴰ·not-nil, List·Memᴰ·append-cases, List·Memᴰ·eq-of-singleton}
 use lib.ListN.{length, take, set}
 use lib.Seq.{take-suc-set, sets}
 use Rattle.meaning.specs.Reading.{Answer}
-use Rattle.runs.specs.Holdings.{Holding, key, hexDigit, hex, lineOf}
+use Rattle.runs.specs.Holdings.{Holding, key, hex, lineOf}
 use Rattle.runs.specs.Programs.{answerLine}
 use Rattle.runs.proofs.Sorted.{Bytes}
 use Rattle.holdings.specs.Held.{Adds}
 
 -- ---- digits stored one pair behind the other
-
-same-digit : (x : ℕ) → T.hexDigit x ≡ hexDigit x
-unfolding T.hexDigit hexDigit
-same-digit x = on (leb x 9) refl
-  where
-    on : (b : Bool) → leb x 9 ≡ b → cond (ltb x 10) (48 + x) (55 + x) ≡ cond b (48 + x) (55 + x)
-    on true e = rw (lt-ltb x 10 (omega (arith, leb-true x 9 e)))
-    on false e = rw (le-ltb x 10 (omega (arith, leb-false x 9 e)))
 
 sets-append : (xs ys l : List ℕ) (at : ℕ) → sets l at (xs ++ ys) ≡ sets (sets l at xs) (at + length xs) ys
 sets-append [] ys l at = let e : at + 0 ≡ at = omega arith in rw e
@@ -34,7 +23,7 @@ sets-append (x ∷ xs) ys l at = let e : at + suc (length xs) ≡ suc at + lengt
 
 -- l′ is l with the two digits of x stored at a place
 abbrev pub Pair : List ℕ → List ℕ → ℕ → ℕ → Type 0
-Pair l l′ at x = l′ ≡ set (set l at (T.hexDigit (x / 16))) (at + 1) (T.hexDigit (x % 16))
+Pair l l′ at x = l′ ≡ set (set l at (hexDigit (x / 16))) (at + 1) (hexDigit (x % 16))
 
 -- l′ is l with a text stored at a place: one more byte behind it, or the two digits of one
 module _ (l l′ text : List ℕ) (at : ℕ) (stored : l′ ≡ sets l at text) where
@@ -42,8 +31,8 @@ module _ (l l′ text : List ℕ) (at : ℕ) (stored : l′ ≡ sets l at text) 
   byte-more n x e = rw (e, stored) (sym (sets-append text (x ∷ []) l at))
 
   pair-more : (l″ : List ℕ) (n x : ℕ) → n ≡ at + length text → Pair l′ l″ n x → l″ ≡ sets l at (text ++ hex x)
-  unfolding hex
-  pair-more l″ n x e p = p ∙ rw (add-one n, same-digit (x / 16), same-digit (x % 16), e, stored) (sym (sets-append text (hex x) l at))
+  unfolding hex hexDigit
+  pair-more l″ n x e p = p ∙ rw (add-one n, e, stored) (sym (sets-append text (hex x) l at))
 
 module _ (l l₁ l₂ l₃ l₄ : List ℕ) where
   pub line-stored : (at : ℕ) (h : Holding) → Pair l l₁ at 0x30 → Pair l₁ l₂ (at + 2) (h .domain) → Pair l₂ l₃ (at + 4) (h .ref) → Pair l₃ l₄ (at + 6) (h .type) → set l₄ (at + 8) 10 ≡ sets l at (lineOf h)

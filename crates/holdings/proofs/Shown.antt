@@ -21,7 +21,7 @@ use Rattle.sorting.specs.Deal.{byBytes}
 use Rattle.sorting.specs.Order.{Ordered, none, more, SameMembers}
 use Rattle.sorting.proofs.Rising.{sorts}
 use Rattle.holdings.specs.Held.{Looked, homeIn, runsIn, linked, frameHeld, savedHeld, framesHeld}
-use Rattle.holdings.specs.Lines.{holdingOf, once, linesOf}
+use Rattle.holdings.specs.Lines.{noKey, holdingOf, once, linesOf}
 use Rattle.holdings.proofs.Once.{rising-one, once-members, once-order}
 
 -- ---- what is held, by the arrays and by the package
@@ -59,7 +59,7 @@ module _ (P : Package) (owners homes : List ℕ) (k : Looked P owners homes) whe
 
 -- ---- holdings and their keys
 
-key-small : {h : Holding} → Bytes h → key h < 16777216
+key-small : {h : Holding} → Bytes h → key h < noKey
 unfolding key
 key-small b = omega (arith, b .domain, b .ref, b .type)
 
@@ -91,19 +91,19 @@ module _ (hs : List Holding) (bs : (h : Holding) → In h hs → Bytes h) where
     λ m. let w = Memᴰ·of-map key (sorted hs) m in Memᴰ·cast (sym (w .2)) (Memᴰ·map key (in-sorted hs (w .1))),
   )
 
-  keys-small : (k : ℕ) → In k (map key hs) → k < 16777216
-  keys-small k m = let w = Memᴰ·of-map key hs m in subst (λ x. x < 16777216) (w .2) (key-small (bs (w .0) (w .1)))
+  keys-small : (k : ℕ) → In k (map key hs) → k < noKey
+  keys-small k m = let w = Memᴰ·of-map key hs m in subst (λ x. x < noKey) (w .2) (key-small (bs (w .0) (w .1)))
 
-  pub sorted-small : (k : ℕ) → In k (byBytes (map key hs)) → k < 16777216
+  pub sorted-small : (k : ℕ) → In k (byBytes (map key hs)) → k < noKey
   sorted-small k m = keys-small k (sorts (map key hs) keys-small .members k .1 m)
 
-  once-sorted : once 16777216 (byBytes (map key hs)) ≡ map key (sorted hs)
+  once-sorted : once noKey (byBytes (map key hs)) ≡ map key (sorted hs)
   once-sorted =
       let w = sorts (map key hs) keys-small in
-      let o = once-members 16777216 (byBytes (map key hs)) sorted-small in
-      rising-one (once-order 16777216 (byBytes (map key hs)) sorted-small (w .order)) (keys-ordered (sorted hs) (sorted-keys hs))
+      let o = once-members noKey (byBytes (map key hs)) sorted-small in
+      rising-one (once-order noKey (byBytes (map key hs)) sorted-small (w .order)) (keys-ordered (sorted hs) (sorted-keys hs))
       (λ k. (λ m. keys-members k .0 (w .members k .1 (o k .1 m)), λ m. o k .0 (w .members k .0 (keys-members k .1 m))))
 
-  pub lines-sorted : linesOf 16777216 (byBytes (map key hs)) ≡ textOf (sorted hs)
+  pub lines-sorted : linesOf noKey (byBytes (map key hs)) ≡ textOf (sorted hs)
   unfolding linesOf
   lines-sorted = ap (λ ks. textOf (map holdingOf ks)) once-sorted ∙ ap textOf (of-keys (sorted hs) (λ h m. bs h (in-sorted hs m)))

@@ -8,6 +8,10 @@ use lib.Dec.{eqb}
 use lib.ListN.{length, drop}
 use Rattle.runs.specs.Holdings.{Holding, holding, textOf}
 
+-- a key has three bytes: this is none
+abbrev pub noKey : ℕ
+noKey = 16777216
+
 -- what a key says
 abbrev pub holdingOf : ℕ → Holding
 holdingOf k = holding (k / 65536) (k / 256 % 256) (k % 256)

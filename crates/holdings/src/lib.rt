@@ -13,7 +13,10 @@ ghost use Rattle.runs.specs.Programs.{answerLine};
 ghost use Rattle.runs.proofs.Sorted.{Bytes};
 ghost use Rattle.state.specs.View.{view};
 ghost use Rattle.holdings.specs.Held.{Counted, Looked, homeIn, runsIn, labelled, linked, framesHeld, Adds};
-ghost use Rattle.holdings.specs.Lines.{holdingOf, linesOf, Put};
+ghost use Rattle.holdings.specs.Lines.{noKey, holdingOf, linesOf, Put};
+
+// A key has three bytes: this is none.
+const NO_KEY: u32 = 16777216;
 
 // ---- what is held, as keys
 
@@ -114,7 +117,7 @@ fn frame_keys(keys: &mut [u32], s: state::State, owners: &[u8; 256], homes: &[u8
 
 // The line of a key.
 fn put_line(out: &mut [u8], at: usize, key: u32)
-    requires { ⌜ (at + 9 ≤ length (now out)) × (key < 16777216) ⌝ }
+    requires { ⌜ (at + 9 ≤ length (now out)) × (key < noKey) ⌝ }
     ensures { λ _. ⌜ now (out .exit) ≡ sets (now (out .entry)) at (lineOf (holdingOf key)) ⌝ }
 {
     text::put_hex2(out, at, 0x30);
@@ -127,11 +130,11 @@ fn put_line(out: &mut [u8], at: usize, key: u32)
 // A line for each key that differs from the one before.
 fn put_lines(out: &mut [u8], keys: &[u32]) -> usize
     requires { ⌜ 9 * length (now keys) ≤ length (now out) ⌝ }
-    requires { ⌜ ((k : ℕ) → In k (now keys) → k < 16777216) ⌝ }
-    ensures { λ r. ⌜ Put (linesOf 16777216 (now (keys .entry))) (now (out .entry)) r (now (out .exit)) ⌝ }
+    requires { ⌜ ((k : ℕ) → In k (now keys) → k < noKey) ⌝ }
+    ensures { λ r. ⌜ Put (linesOf noKey (now (keys .entry))) (now (out .entry)) r (now (out .exit)) ⌝ }
 {
     let mut at: usize = 0;
-    let mut last: u32 = 16777216;
+    let mut last = NO_KEY;
     let mut i = 0;
     while i < keys.len() {
         let key = keys[i];

@@ -5,14 +5,14 @@ use mathlib.Core.Logic.{⊎-elim}
 use native.Mathlib.Omega.{arith}
 use lib.ListN.{length, drop, getD}
 use Rattle.meaning.proofs.Lists.{getD-in}
-use Rattle.holdings.specs.Lines.{linesOf}
+use Rattle.holdings.specs.Lines.{noKey, linesOf}
 use Rattle.holdings.proofs.Writing.{Writing, writing-none, writing-same, writing-more, writing-ends}
 use borrow.Author.Needs.{needs}
 use Rattle.holdings.proofs.put_lines.Statement.{statement}
 use Rattle.holdings.proofs.put_lines.Tie as tie
 
 abbrev Inv-loop : tie.InvT-loop
-Inv-loop out₀ keys at₀ last₀ i₀ out at last i = (i ≤ length keys) × Writing (linesOf 16777216 keys) out₀ (linesOf last (drop i keys)) i at out
+Inv-loop out₀ keys at₀ last₀ i₀ out at last i = (i ≤ length keys) × Writing (linesOf noKey keys) out₀ (linesOf last (drop i keys)) i at out
 
 abbrev μ-loop : tie.MeasureT-loop
 μ-loop out₀ keys at₀ last₀ i₀ out at last i = length keys - i

@@ -11,7 +11,7 @@ use Rattle.tables.proofs.Pack.{pad-take}
 use Rattle.sorting.specs.Deal.{byBytes}
 use Rattle.sorting.proofs.Dealing.{bytes-long}
 use Rattle.holdings.specs.Held.{framesHeld, linked}
-use Rattle.holdings.specs.Lines.{linesOf, Put}
+use Rattle.holdings.specs.Lines.{noKey, linesOf, Put}
 use Rattle.holdings.proofs.Gathering.{Gathering, gathers-first, gathers-more, gathered}
 use Rattle.holdings.proofs.Shown.{held-holdings, sorted-small, lines-sorted}
 use Rattle.holdings.proofs.write_holdings.Statement.{statement}
@@ -81,7 +81,7 @@ unfolding holdingsText shown
 returns c =
     let a = c .before .before .before .before .before .before .before .before .before .before .before .before .before .before .before in
     λ P k. subst (λ t. Put t (a .args .out .now) (c .before .before .put-lines .result) (c .before .before .put-lines .last .0))
-    (ap (linesOf 16777216) (risen (c .before .before .before .before .before)) ∙ lines-sorted (held a) (gathered _ _ _ (gathers (c .before .before .before .before .before .before .before .before)) .1) ∙ ap (λ hs. textOf (sorted hs)) (held-holdings P _ _ k (a .args .s)))
+    (ap (linesOf noKey) (risen (c .before .before .before .before .before)) ∙ lines-sorted (held a) (gathered _ _ _ (gathers (c .before .before .before .before .before .before .before .before)) .1) ∙ ap (λ hs. textOf (sorted hs)) (held-holdings P _ _ k (a .args .s)))
     (c .before .before .put-lines .ensures)
 
 pub write-holdings-spec : {M : Type 1} → statement M

@@ -21,7 +21,7 @@ use Rattle.meaning.proofs.Bools.{both, either, passes-true, Decides, decided, d
 use Rattle.meaning.proofs.Lists.{all-sound, getD-in}
 use Rattle.meaning.proofs.ReadLists.{cond-elim}
 use Rattle.meaning.proofs.Trust.{good-rising}
-use Rattle.runs.specs.Machine.{Link, State, Step, object, label}
+use Rattle.runs.specs.Machine.{Link, State, Step, widen, new, checkcast, getstatic, putstatic, getfield, putfield, invokestatic, invokemethod, return, object, label}
 use Rattle.runs.specs.Steps.{inPool, isA}
 use Rattle.runs.specs.Run.{Placed, placed}
 use Rattle.runs.specs.Script.{Reader, isReference, isFieldOf, someField, withLinkLine, takeEntry, takeObject, takeStaticLink, takeObjectLink, takeLabel, onType, onStatic, onField, onStaticMethod, onMethod, stepOf, placeStep, takeStep, takeEnd, takeLater, takeFrame, takeIf, takeLine, Script, isScript, isNone, startOf, readNext, readEnd, readLines, noReader, readShort, readScript}
@@ -91,7 +91,7 @@ reference r l t = on (eqb-false r 0xFF (not-true (eqb r 0xFF) (passes-true (not 
 -- ---- what is taken
 
 -- refused, or taken with Q
-data Fine {A : Type 0} (Q : A → Type 0) : Took A → Type 0 where
+pub data Fine {A : Type 0} (Q : A → Type 0) : Took A → Type 0 where
   refused : {x : ℕ} → Fine Q (refuses x)
   fine : {a : A} → Q a → Fine Q (takes a)
 
@@ -101,8 +101,38 @@ need-fine false x h = refused
 
 -- ---- the steps
 
-one : {x : ℕ} → Reference x → (r : ℕ) → In r (x ∷ []) → Reference r
-one h r m = rw (List·Memᴰ·eq-of-singleton m) h
+-- each kind of step, where its references are asked
+module _ (P : Package) (f : List ℕ) {Q : Step → Type 0} (k : Step) where
+  type-fine : (T (isReference (byte f 1)) → Q k) → Fine Q (onType P f k)
+  unfolding onType
+  type-fine h = need-fine (isReference (byte f 1)) 57 (λ a. need-fine (isType P (byte f 2)) 57 (λ _. fine (h a)))
+
+  static-fine : (T (isReference (byte f 2)) → Q k) → Fine Q (onStatic P f k)
+  unfolding onStatic
+  static-fine h = need-fine (isField P (byte f 1) 1) 57 (λ _. need-fine (isReference (byte f 2)) 57 (λ a. fine (h a)))
+
+  field-fine : (T (isReference (byte f 2)) → T (isReference (byte f 3)) → Q k) → Fine Q (onField P f k)
+  unfolding onField
+  field-fine h =
+      need-fine (isField P (byte f 1) 0) 57 (λ _.
+      need-fine (isReference (byte f 2)) 57 (λ a.
+      need-fine (isReference (byte f 3)) 57 (λ b. fine (h a b))))
+
+  static-method-fine : (T (all isReference (drop 3 f)) → Q k) → Fine Q (onStaticMethod P f k)
+  unfolding onStaticMethod
+  static-method-fine h =
+      need-fine (isMethodOf P (byte f 1) 1) 57 (λ _.
+      need-fine (eqb (byte f 2) (length (paramsOf P (byte f 1)))) 57 (λ _.
+      need-fine (all isReference (drop 3 f)) 57 (λ a. fine (h a))))
+
+  method-fine : (T (isReference (byte f 3)) → T (all isReference (drop 5 f)) → Q k) → Fine Q (onMethod P f k)
+  unfolding onMethod
+  method-fine h =
+      need-fine (isMethodOf P (byte f 1) 0) 57 (λ _.
+      need-fine (isMethodOf P (byte f 2) 0) 57 (λ _.
+      need-fine (isReference (byte f 3)) 57 (λ a.
+      need-fine (eqb (byte f 4) (length (paramsOf P (byte f 1)))) 57 (λ _.
+      need-fine (all isReference (drop 5 f)) 57 (λ b. fine (h a b))))))
 
 module _ (P : Package) (f : List ℕ) (small : Small f) where
   at : (i : ℕ) → T (isReference (byte f i)) → Reference (byte f i)
@@ -111,53 +141,52 @@ module _ (P : Package) (f : List ℕ) (small : Small f) where
   behind : (n : ℕ) → T (all isReference (drop n f)) → (r : ℕ) → In r (drop n f) → Reference r
   behind n t r m = reference r (small r (drop-in n f m)) (all-sound isReference t m)
 
-  type-fine : (k : Step) → (Reference (byte f 1) → ProperStep k) → Fine ProperStep (onType P f k)
-  unfolding onType
-  type-fine k h = need-fine (isReference (byte f 1)) 57 (λ a. need-fine (isType P (byte f 2)) 57 (λ _. fine (h (at 1 a))))
+  one : (i : ℕ) → T (isReference (byte f i)) → (r : ℕ) → In r (byte f i ∷ []) → Reference r
+  one i a r m = rw (List·Memᴰ·eq-of-singleton m) (at i a)
 
-  static-fine : (k : Step) → (Reference (byte f 2) → ProperStep k) → Fine ProperStep (onStatic P f k)
-  unfolding onStatic
-  static-fine k h = need-fine (isField P (byte f 1) 1) 57 (λ _. need-fine (isReference (byte f 2)) 57 (λ a. fine (h (at 2 a))))
-
-  field-fine : (k : Step) → (Reference (byte f 2) → Reference (byte f 3) → ProperStep k) → Fine ProperStep (onField P f k)
-  unfolding onField
-  field-fine k h =
-      need-fine (isField P (byte f 1) 0) 57 (λ _.
-      need-fine (isReference (byte f 2)) 57 (λ a.
-      need-fine (isReference (byte f 3)) 57 (λ b. fine (h (at 2 a) (at 3 b)))))
-
-  static-method-fine : (k : Step) → (((r : ℕ) → In r (drop 3 f) → Reference r) → ProperStep k) → Fine ProperStep (onStaticMethod P f k)
-  unfolding onStaticMethod
-  static-method-fine k h =
-      need-fine (isMethodOf P (byte f 1) 1) 57 (λ _.
-      need-fine (eqb (byte f 2) (length (paramsOf P (byte f 1)))) 57 (λ _.
-      need-fine (all isReference (drop 3 f)) 57 (λ a. fine (h (behind 3 a)))))
-
-  method-fine : (k : Step) → (Reference (byte f 3) → ((r : ℕ) → In r (drop 5 f) → Reference r) → ProperStep k) → Fine ProperStep (onMethod P f k)
-  unfolding onMethod
-  method-fine k h =
-      need-fine (isMethodOf P (byte f 1) 0) 57 (λ _.
-      need-fine (isMethodOf P (byte f 2) 0) 57 (λ _.
-      need-fine (isReference (byte f 3)) 57 (λ a.
-      need-fine (eqb (byte f 4) (length (paramsOf P (byte f 1)))) 57 (λ _.
-      need-fine (all isReference (drop 5 f)) 57 (λ b. fine (h (at 3 a) (behind 5 b)))))))
+  two : (i j : ℕ) → T (isReference (byte f i)) → T (isReference (byte f j)) → (r : ℕ) → In r (byte f i ∷ byte f j ∷ []) → Reference r
+  two i j a b = joins-each (joins-cons (byte f i) (byte f j ∷ [])) Reference (at i a) (one j b)
 
   step-fine : Fine ProperStep (stepOf P f)
   unfolding stepOf
   step-fine =
-      cond-elim (Fine ProperStep) (eqb (byte f 0) 0x20) (λ _. type-fine _ one)
-      (cond-elim (Fine ProperStep) (eqb (byte f 0) 0x21) (λ _. type-fine _ one)
-      (cond-elim (Fine ProperStep) (eqb (byte f 0) 0x22) (λ _. type-fine _ one)
-      (cond-elim (Fine ProperStep) (eqb (byte f 0) 0x23) (λ _. static-fine _ one)
-      (cond-elim (Fine ProperStep) (eqb (byte f 0) 0x24) (λ _. static-fine _ one)
-      (cond-elim (Fine ProperStep) (eqb (byte f 0) 0x25) (λ _. field-fine _ two)
-      (cond-elim (Fine ProperStep) (eqb (byte f 0) 0x26) (λ _. field-fine _ two)
-      (cond-elim (Fine ProperStep) (eqb (byte f 0) 0x27) (λ _. static-method-fine _ (λ h. h))
-      (cond-elim (Fine ProperStep) (eqb (byte f 0) 0x28) (λ _. method-fine _ (λ h rest. joins-each (joins-cons (byte f 3) (drop 5 f)) Reference h rest))
+      cond-elim (Fine ProperStep) (eqb (byte f 0) 0x20) (λ _. type-fine P f _ (one 1))
+      (cond-elim (Fine ProperStep) (eqb (byte f 0) 0x21) (λ _. type-fine P f _ (one 1))
+      (cond-elim (Fine ProperStep) (eqb (byte f 0) 0x22) (λ _. type-fine P f _ (one 1))
+      (cond-elim (Fine ProperStep) (eqb (byte f 0) 0x23) (λ _. static-fine P f _ (one 2))
+      (cond-elim (Fine ProperStep) (eqb (byte f 0) 0x24) (λ _. static-fine P f _ (one 2))
+      (cond-elim (Fine ProperStep) (eqb (byte f 0) 0x25) (λ _. field-fine P f _ (two 2 3))
+      (cond-elim (Fine ProperStep) (eqb (byte f 0) 0x26) (λ _. field-fine P f _ (two 2 3))
+      (cond-elim (Fine ProperStep) (eqb (byte f 0) 0x27) (λ _. static-method-fine P f _ (behind 3))
+      (cond-elim (Fine ProperStep) (eqb (byte f 0) 0x28) (λ _. method-fine P f _ (λ a b. joins-each (joins-cons (byte f 3) (drop 5 f)) Reference (at 3 a) (behind 5 b)))
       (fine (λ r m. absurd (List·Memᴰ·not-nil m)))))))))))
-    where
-      two : {x y : ℕ} → Reference x → Reference y → (r : ℕ) → In r (x ∷ y ∷ []) → Reference r
-      two {x} {y} h k = joins-each (joins-cons x (y ∷ [])) Reference h (one k)
+
+-- the frame of a step, field for field
+abbrev pub spelt : Step → List ℕ
+spelt (widen r b) = 0x20 ∷ r ∷ b ∷ []
+spelt (new r b) = 0x21 ∷ r ∷ b ∷ []
+spelt (checkcast r b) = 0x22 ∷ r ∷ b ∷ []
+spelt (getstatic f q) = 0x23 ∷ f ∷ q ∷ []
+spelt (putstatic f q) = 0x24 ∷ f ∷ q ∷ []
+spelt (getfield f p q) = 0x25 ∷ f ∷ p ∷ q ∷ []
+spelt (putfield f p q) = 0x26 ∷ f ∷ p ∷ q ∷ []
+spelt (invokestatic n rs) = 0x27 ∷ n ∷ length rs ∷ rs
+spelt (invokemethod n v r rs) = 0x28 ∷ n ∷ v ∷ r ∷ length rs ∷ rs
+spelt (return r) = 0x29 ∷ r ∷ []
+
+-- it is read as that step, or refused
+pub spelt-read : (P : Package) (k : Step) → Fine (λ x. x ≡ k) (stepOf P (spelt k))
+unfolding stepOf
+spelt-read P (widen r b) = type-fine P (spelt (widen r b)) _ (λ _. refl)
+spelt-read P (new r b) = type-fine P (spelt (new r b)) _ (λ _. refl)
+spelt-read P (checkcast r b) = type-fine P (spelt (checkcast r b)) _ (λ _. refl)
+spelt-read P (getstatic f q) = static-fine P (spelt (getstatic f q)) _ (λ _. refl)
+spelt-read P (putstatic f q) = static-fine P (spelt (putstatic f q)) _ (λ _. refl)
+spelt-read P (getfield f p q) = field-fine P (spelt (getfield f p q)) _ (λ _ _. refl)
+spelt-read P (putfield f p q) = field-fine P (spelt (putfield f p q)) _ (λ _ _. refl)
+spelt-read P (invokestatic n rs) = static-method-fine P (spelt (invokestatic n rs)) _ (λ _. refl)
+spelt-read P (invokemethod n v r rs) = method-fine P (spelt (invokemethod n v r rs)) _ (λ _ _. refl)
+spelt-read P (return r) = fine refl
 
 -- ---- what is read so far
 

@@ -4,7 +4,7 @@
 use mathlib.Core.Path.{_≡_, refl, _∙_, ap}
 use Rattle.meaning.specs.Examples.{bytes, variant}
 use Rattle.runs.specs.Programs.{Told, tellOf, write, checkOutput, runOutput}
-use Rattle.runs.specs.Examples.{sample, worked, printed, Case, Right, AllRight, fielded, taken, each, refused, notRead}
+use Rattle.runs.specs.Examples.{sample, worked, printed, Case, Right, AllRight, fielded, overridden, taken, each, refused, notRead}
 use Rattle.runs.proofs.Written.{run-told}
 
 pub worked-right : runOutput worked ≡ printed
@@ -25,8 +25,8 @@ told : (c : Case) → tellOf (c .given) (c .text) ≡ record { answer = c .answe
 told c e b l = run-told (c .given) (c .text) b l ∙ ap (λ (w : Told). write w b) e
 
 pub taken-right : AllRight taken
-unfolding tellOf fielded
-taken-right = (told _ refl, tt)
+unfolding tellOf fielded overridden
+taken-right = (told _ refl, (told _ refl, tt))
 
 pub refused-right : AllRight refused
 unfolding tellOf sample each

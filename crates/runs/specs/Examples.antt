@@ -50,11 +50,17 @@ unfolding variant
 fielded =
     variant "010205\n" "" "04040201\n04040200\n" "050404010000FF00\n050303000001FF0101\n050404010000020102\n" "06000102\n06000200\n06000300\n06000401\n06000501\n06000602\n"
 
--- start lines and steps of each kind
+-- variant (h): method 2 of class 5 overrides method 1 of class 3
+unfoldable pub overridden : List ℕ
+unfolding variant
+overridden = variant "010206\n" "020305\n" "03050103\n" "050404010000FF00\n050303000001FF0101\n050503000001FF0101\n" ""
+
+-- start lines and steps of each kind; a call of method 1 that runs method 2
 abbrev pub taken : List Case
 taken =
     case fielded (bytes "1000\n110A02\n110B04\n1204020A\n130B04020A\n140B04\n140B00\n210002\n200001\n220002\n23000A\n240000\n25010B0A\n26010B00\n210103\n27020100\n2900\n280101010100\n29FF\n2F\n")
     (answer 0 0 12) (bytes "30040001\n30040002\n30040103\n30040A02\n30040B00\n30040B04\n")
+    ∷ case overridden (bytes "1000\n110001\n110505\n140001\n140503\n280102050100\n2F\n") (answer 0 0 1) (bytes "30040001\n30040503\n30050001\n30050505\n")
     ∷ []
 
 -- f 0, f 1, .., f (n - 1) one behind the other

@@ -1,15 +1,13 @@
-// The holdings of a run state as text: the keys of all that is held, sorted, each written once as a line of nine bytes; and the answer's line.
+// The holdings of a run state as text: the keys of all that is held, sorted, each written once as a line of nine bytes.
 // What is held is specs/Held.antt.
 ghost use mathlib.Core.Path.{_≡_};
-ghost use mathlib.Core.List.{_++_, map};
+ghost use mathlib.Core.List.{map};
 ghost use Prim.Native.Nat.{ℕ, _+_, _*_, _<_, _≤_};
 ghost use lib.ListN.{length, take, drop, getD};
 ghost use lib.Seq.{sets};
 ghost use Rattle.meaning.specs.Lists.{In};
 ghost use Rattle.meaning.specs.Tables.{Package};
-ghost use Rattle.meaning.specs.Reading.{answer};
 ghost use Rattle.runs.specs.Holdings.{holding, key, lineOf, textOf, holdingsText};
-ghost use Rattle.runs.specs.Programs.{answerLine};
 ghost use Rattle.runs.proofs.Sorted.{Bytes};
 ghost use Rattle.state.specs.View.{view};
 ghost use Rattle.holdings.specs.Held.{Counted, Looked, homeIn, runsIn, labelled, linked, framesHeld, Adds};
@@ -167,18 +165,4 @@ pub fn write_holdings(
     let n = framed + nlinks;
     let rising = sorting::sorted(&keys[..n]);
     put_lines(out, &rising[..n])
-}
-
-// 2E aa pppp qqqq and LF at the buffer's start; the bytes behind it stay.
-pub fn put_answer(out: &mut [u8], number: u8, first: u16, second: u16)
-    requires { ⌜ 13 ≤ length (now out) ⌝ }
-    ensures { λ _. ⌜ now (out .exit) ≡ answerLine (answer number first second) ++ drop 13 (now (out .entry)) ⌝ }
-{
-    text::put_hex2(out, 0, 0x2E);
-    text::put_hex2(out, 2, number);
-    text::put_hex2(out, 4, (first / 256) as u8);
-    text::put_hex2(out, 6, (first % 256) as u8);
-    text::put_hex2(out, 8, (second / 256) as u8);
-    text::put_hex2(out, 10, (second % 256) as u8);
-    out[12] = 10;
 }

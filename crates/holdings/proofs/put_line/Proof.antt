@@ -6,7 +6,7 @@ use lib.ListN.{length, set}
 use lib.Seq.{sets, length-sets}
 use Rattle.runs.specs.Holdings.{lineOf}
 use Rattle.holdings.specs.Lines.{holdingOf}
-use Rattle.holdings.proofs.Stores.{line-stored}
+use Rattle.printing.proofs.Digits.{line-stored}
 use borrow.Author.Needs.{needs}
 use Rattle.holdings.proofs.put_line.Statement.{statement}
 use Rattle.holdings.proofs.put_line.Tie as tie

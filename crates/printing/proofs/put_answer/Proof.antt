@@ -1,14 +1,14 @@
--- `holdings::put_answer` meets its contract: six pairs of digits and the LF, one behind the other.
+-- `printing::put_answer` meets its contract: six pairs of digits and the LF, one behind the other.
 -- Assumes nothing.
 use mathlib.Core.Path.{_≡_, ap, _∙_}
 use lib.ListN.{length, set}
 use lib.Seq.{sets, sets-eq, length-sets}
 use Rattle.meaning.specs.Reading.{answer}
 use Rattle.runs.specs.Programs.{answerLine}
-use Rattle.holdings.proofs.Stores.{answer-stored}
+use Rattle.printing.proofs.Digits.{answer-stored}
 use borrow.Author.Needs.{needs}
-use Rattle.holdings.proofs.put_answer.Statement.{statement}
-use Rattle.holdings.proofs.put_answer.Tie as tie
+use Rattle.printing.proofs.put_answer.Statement.{statement}
+use Rattle.printing.proofs.put_answer.Tie as tie
 
 -- the pairs of digits and the LF are the line
 stored : (c : tie.After-slice-known7) → set (c .before .before .put-hex26 .last .0) 12 10 ≡ sets (c .before .before .before .before .before .before .before .before .before .before .before .before .before .before .before .before .before .before .before .before .before .before .before .before .before .args .out .now) 0 (answerLine (answer (c .before .before .before .before .before .before .before .before .before .before .before .before .before .before .before .before .before .before .before .before .before .before .before .before .before .args .number) (c .before .before .before .before .before .before .before .before .before .before .before .before .before .before .before .before .before .before .before .before .before .before .before .before .before .args .first) (c .before .before .before .before .before .before .before .before .before .before .before .before .before .before .before .before .before .before .before .before .before .before .before .before .before .args .second)))

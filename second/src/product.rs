@@ -46,9 +46,9 @@ pub fn unpack_check(word: u64) -> (u8, u16, u16) {
     (word as u8, (word >> 16) as u16, (word >> 32) as u16)
 }
 
-/// `dcc_run` packs its answer as number | place << 8 | place << 24 | length << 40.
+/// `dcc_run` packs its answer alike, with the length written on top: number | place << 16 | place << 32 | length << 48.
 pub fn unpack_run(word: u64) -> RunAnswer {
-    (word as u8, (word >> 8) as u16, (word >> 24) as u16, (word >> 40) as usize)
+    (word as u8, (word >> 16) as u16, (word >> 32) as u16, (word >> 48) as usize)
 }
 
 /// Which of the library's functions are linked: a library may have `dcc_check` alone.

@@ -21,5 +21,5 @@ fn a_difference_is_found_and_made_small() {
 #[test]
 fn packed_answers() {
     assert_eq!(unpack_check(30 | 0x03FF << 16 | 5 << 32), (30, 0x03FF, 5));
-    assert_eq!(unpack_run(63 | 0x1234 << 8 | 1024 << 24 | 7200 << 40), (63, 0x1234, 1024, 7200));
+    assert_eq!(unpack_run(63 | 0x1234 << 16 | 1024 << 32 | 7200 << 48), (63, 0x1234, 1024, 7200));
 }

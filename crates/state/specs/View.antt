@@ -11,6 +11,7 @@ use lib.ListN.{length, take, drop, getD, replicate}
 use Rattle.meaning.specs.Tables.{typeOrNone}
 use Rattle.runs.specs.Machine as M
 use Rattle.tables.specs.Pack.{pad}
+use Rattle.bits.specs.Rows.{listed}
 use Rattle.state.specs.declared.Label.{Label}
 use Rattle.state.specs.declared.Link.{Link}
 use Rattle.state.specs.declared.Saved.{Saved}
@@ -37,6 +38,10 @@ linkView k = record { owner = k .owner; declared = k .declared; type = k .typ; t
 unfoldable pub frameView : List Label → ℕ → ℕ → List M.Label
 frameView ls d n = map labelView (take n (drop (32 * d) ls))
 
+-- the first n links
+abbrev pub linksView : List Link → ℕ → List M.Link
+linksView ks n = map linkView (take n ks)
+
 -- the saved contexts below depth d, the newest first
 unfoldable pub savedView : List Label → List Saved → ℕ → List M.Saved
 savedView ls ks zero = []
@@ -52,7 +57,7 @@ unfoldable pub view : State → M.State
 view s =
     record {
       pool = poolFrom 0 (s .pool);
-      links = map linkView (take (s .nlinks) (s .links));
+      links = linksView (s .links) (s .nlinks);
       labels = frameView (s .labels) (s .depth) (s .n);
       method = s .method;
       saved = savedView (s .labels) (s .saved) (s .depth);
@@ -88,15 +93,14 @@ unfoldable pub classIn : List M.Object → ℕ → ℕ
 classIn [] r = 0xFF
 classIn (o ∷ os) r = cond (eqb (o .ref) r) (o .class) (classIn os r)
 
--- the classes of the n references from r on
-unfoldable pub packPool : List M.Object → ℕ → ℕ → List ℕ
-packPool os r zero = []
-packPool os r (suc n) = classIn os r ∷ packPool os (suc r) n
+-- the classes of the references, in rising order
+unfoldable pub packPool : List M.Object → List ℕ
+packPool os = listed 256 (classIn os)
 
 unfoldable pub pack : M.State → State
 pack s =
     record {
-      pool = packPool (s .pool) 0 256;
+      pool = packPool (s .pool);
       links = pad 256 noLink (map packLink (s .links));
       nlinks = length (s .links);
       labels = pad 544 noLabel (packFrames (s .saved) ++ map packLabel (s .labels));

@@ -1,4 +1,13 @@
 // The run state by value: flat arrays of links, labels and saved contexts with their counts, and the pool. What it means is specs/View.antt.
+ghost use mathlib.Core.Path.{_≡_};
+ghost use mathlib.Core.Bool.{false};
+ghost use Prim.Native.Nat.{_+_, _*_, _≤_, _<_};
+ghost use lib.ListN.{take};
+ghost use mathlib.Core.List.{map};
+ghost use Rattle.runs.specs.Machine.{label, sameLabel, sameLink};
+ghost use Rattle.runs.specs.Steps.{isOf, holds, holdsRef, hasLink, inPool, join, make, link};
+ghost use Rattle.state.specs.View.{labelView, linkView, frameView, linksView, poolFrom, view};
+ghost use Rattle.state.specs.Fine.{Fine, doneOf};
 
 // r labelled c, in a frame
 pub struct Label {
@@ -32,4 +41,84 @@ pub struct State {
     pub saved: [Saved; 16],
     pub depth: usize,
     pub method: u8,
+}
+
+// What a step answers: 0 and the next state, or the number of the refusal and the state as it was.
+pub struct Done {
+    pub code: u8,
+    pub state: State,
+}
+
+fn is_label(l: Label, r: u8, c: u8) -> bool
+    ensures { λ x. ⌜ x ≡ sameLabel (label r c) (labelView l) ⌝ }
+{
+    if r != l.r {
+        return false;
+    }
+    c == l.c
+}
+
+// Whether the frame at this depth, of n labels, has r at the label c.
+pub fn has_label(labels: [Label; 544], depth: usize, n: usize, r: u8, c: u8) -> bool
+    requires { ⌜ 32 * depth + n ≤ 544 ⌝ }
+    ensures { λ x. ⌜ x ≡ holds (frameView labels depth n) r c ⌝ }
+{
+    let base = 32 * depth;
+    let mut i = 0;
+    while i < n {
+        let l = labels[base + i];
+        if is_label(l, r, c) {
+            return true;
+        }
+        i += 1;
+    }
+    false
+}
+
+// Whether that frame has r at any label.
+pub fn has_ref(labels: [Label; 544], depth: usize, n: usize, r: u8) -> bool
+    requires { ⌜ 32 * depth + n ≤ 544 ⌝ }
+    ensures { λ x. ⌜ x ≡ holdsRef (frameView labels depth n) r ⌝ }
+{
+    let base = 32 * depth;
+    let mut i = 0;
+    while i < n {
+        let l = labels[base + i];
+        if l.r == r {
+            return true;
+        }
+        i += 1;
+    }
+    false
+}
+
+fn is_link(k: Link, l: Link) -> bool
+    ensures { λ x. ⌜ x ≡ sameLink (linkView k) (linkView l) ⌝ }
+{
+    if k.owner != l.owner {
+        return false;
+    }
+    if k.declared != l.declared {
+        return false;
+    }
+    if k.typ != l.typ {
+        return false;
+    }
+    k.target == l.target
+}
+
+// Whether the first n links have k.
+pub fn has_link(links: [Link; 256], n: usize, k: Link) -> bool
+    requires { ⌜ n ≤ 256 ⌝ }
+    ensures { λ x. ⌜ x ≡ hasLink (linksView links n) (linkView k) ⌝ }
+{
+    let mut i = 0;
+    while i < n {
+        let l = links[i];
+        if is_link(k, l) {
+            return true;
+        }
+        i += 1;
+    }
+    false
 }

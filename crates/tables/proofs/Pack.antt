@@ -38,11 +38,11 @@ module _ {A : Type 0} (z : A) where
 
 -- a list packed element by element at the start of an array is viewed as that list
 module _ {A B : Type 0} (f : A → B) (g : B → A) (back : (x : A) → g (f x) ≡ x) (z : B) where
-  unmap : (xs : List A) → map g (map f xs) ≡ xs
+  pub unmap : (xs : List A) → map g (map f xs) ≡ xs
   unmap [] = refl
   unmap (x ∷ xs) = rw (back x, unmap xs)
 
-  viewed : (n : ℕ) (xs : List A) → map g (take (length xs) (pad n z (map f xs))) ≡ xs
+  pub viewed : (n : ℕ) (xs : List A) → map g (take (length xs) (pad n z (map f xs))) ≡ xs
   viewed n xs = rw (pad-take z n (map f xs) (length xs) (length-map xs f)) (unmap xs)
 
 -- the tables that mean a package are read as it

@@ -1,3 +1,4 @@
 pub mod Seen
-pub mod Packed
 pub mod Pool
+pub mod Packed
+pub mod Added

@@ -220,10 +220,10 @@ storeLink s k =
       method = s .method;
     }
 
-abbrev withLabels : M.State → List M.Label → M.State
+abbrev pub withLabels : M.State → List M.Label → M.State
 withLabels t ls = record { pool = t .pool; links = t .links; labels = ls; method = t .method; saved = t .saved }
 
-abbrev withLinks : M.State → List M.Link → M.State
+abbrev pub withLinks : M.State → List M.Link → M.State
 withLinks t ks = record { pool = t .pool; links = ks; labels = t .labels; method = t .method; saved = t .saved }
 
 module _ (t : M.State) (w : Within t) where

@@ -131,6 +131,23 @@ pool-class cs r = on (ℕ-discrete (getD cs r 0xFF) 0xFF) (ℕ-discrete (classIn
         let q : w .place ≡ r = omega (arith, w .ref) in
         w .class ∙ ap (λ (k : ℕ). getD cs k 0xFF) q
 
+-- ---- what the code reads off the array
+
+read-any : (cs : List ℕ) (r d d′ : ℕ) → r < length cs → getD cs r d ≡ getD cs r d′
+read-any [] r d d′ h = absurd (not-suc-le-zero h)
+read-any (c ∷ cs) zero d d′ h = refl
+read-any (c ∷ cs) (suc r) d d′ h = read-any cs r d d′ (le-of-suc-le-suc h)
+
+module _ (cs : List ℕ) (r : ℕ) (h : r < length cs) where
+  found : classIn (poolFrom 0 cs) r ≡ getD cs r 0
+  found = pool-class cs r ∙ read-any cs r 0xFF 0 h
+
+  pub read-has : inPool (poolFrom 0 cs) r ≡ not (eqb (getD cs r 0) 0xFF)
+  read-has = pool-has (poolFrom 0 cs) (plain-listed cs) r ∙ ap (λ (c : ℕ). not (eqb c 0xFF)) found
+
+  pub read-is : (P : Package) (b : ℕ) → isA P (poolFrom 0 cs) r b ≡ (not (eqb (getD cs r 0) 0xFF) && subtype P (getD cs r 0) b)
+  read-is P b = pool-is (poolFrom 0 cs) (plain-listed cs) r P b ∙ ap (λ (c : ℕ). not (eqb c 0xFF) && subtype P c b) found
+
 -- ---- the array of a pool
 
 pub pack-at : (os : List Object) (r : ℕ) → r < 256 → getD (packPool os) r 0xFF ≡ classIn os r

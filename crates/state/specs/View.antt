@@ -109,3 +109,7 @@ pack s =
       depth = length (s .saved);
       method = s .method;
     }
+
+-- the state of a method before anything is there
+abbrev pub nothingOf : ℕ → M.State
+nothingOf m = record { pool = []; links = []; labels = []; method = m; saved = [] }

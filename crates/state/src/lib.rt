@@ -5,7 +5,7 @@ ghost use Prim.Native.Nat.{_+_, _*_, _≤_, _<_};
 ghost use lib.ListN.{getD};
 ghost use Rattle.runs.specs.Machine.{label, sameLabel, sameLink};
 ghost use Rattle.runs.specs.Steps.{isOf, holds, holdsRef, hasLink, inPool, join, make, link};
-ghost use Rattle.state.specs.View.{labelView, linkView, frameView, linksView, poolFrom, view};
+ghost use Rattle.state.specs.View.{labelView, linkView, frameView, linksView, poolFrom, view, pack, nothingOf};
 ghost use Rattle.state.specs.Fine.{Fine, doneOf};
 
 // r labelled c, in a frame
@@ -46,6 +46,31 @@ pub struct State {
 pub struct Done {
     pub code: u8,
     pub state: State,
+}
+
+// A run of this method before anything is there.
+pub fn empty(method: u8) -> State
+    ensures { λ s. ⌜ s ≡ pack (nothingOf method) ⌝ }
+{
+    State {
+        pool: [255u8; 256],
+        links: [Link {
+            owner: 0,
+            declared: 0,
+            typ: 0,
+            target: 0,
+        }; 256],
+        nlinks: 0,
+        labels: [Label { r: 0, c: 0 }; 544],
+        n: 0,
+        saved: [Saved {
+            method: 0,
+            pending: 0,
+            n: 0,
+        }; 16],
+        depth: 0,
+        method: method,
+    }
 }
 
 fn is_label(l: Label, r: u8, c: u8) -> bool

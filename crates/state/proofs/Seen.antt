@@ -47,7 +47,3 @@ module _ {A B : Type 0} (v : A → B) (l : List A) (k n : ℕ) (fits : k + n ≤
 
     pub window-end : n ≤ i → false ≡ any f (map v (take n (drop k l)))
     window-end h = unseen-end f (map v (take n (drop k l))) i u (rw window-length h)
-
--- the length that the type of an array of structs tells, which stands at a `map` over the list
-pub long : {A B : Type 0} (f : A → B) (l : List A) (n : ℕ) → length (map f l) ≡ n → length l ≡ n
-long f l n e = sym (length-map l f) ∙ e

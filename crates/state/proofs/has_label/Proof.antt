@@ -7,8 +7,9 @@ use borrow.Author.Needs.{needs}
 use lib.ListN.{length}
 use Rattle.runs.specs.Machine.{label, sameLabel}
 use Rattle.runs.specs.Steps.{holds}
+use Rattle.tables.proofs.Access.{long}
 use Rattle.state.specs.View.{noLabel, labelView, frameView}
-use Rattle.state.proofs.Seen.{Unseen, unseen-none, window-more, window-hit, window-end, long}
+use Rattle.state.proofs.Seen.{Unseen, unseen-none, window-more, window-hit, window-end}
 use Rattle.state.proofs.has_label.Statement.{statement}
 use Rattle.state.proofs.has_label.Tie as tie
 

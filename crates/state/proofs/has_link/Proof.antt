@@ -8,8 +8,9 @@ use borrow.Author.Needs.{needs}
 use lib.ListN.{length}
 use Rattle.runs.specs.Machine.{sameLink}
 use Rattle.runs.specs.Steps.{hasLink}
+use Rattle.tables.proofs.Access.{long}
 use Rattle.state.specs.View.{noLink, linkView, linksView}
-use Rattle.state.proofs.Seen.{Unseen, unseen-none, window-more, window-hit, window-end, long}
+use Rattle.state.proofs.Seen.{Unseen, unseen-none, window-more, window-hit, window-end}
 use Rattle.state.proofs.has_link.Statement.{statement}
 use Rattle.state.proofs.has_link.Tie as tie
 

@@ -7,8 +7,9 @@ use borrow.Author.Needs.{needs}
 use borrow.Author.Tests.{eq-eqb, ne-eqb}
 use lib.ListN.{length}
 use Rattle.runs.specs.Steps.{isOf, holdsRef}
+use Rattle.tables.proofs.Access.{long}
 use Rattle.state.specs.View.{noLabel, labelView, frameView}
-use Rattle.state.proofs.Seen.{Unseen, unseen-none, window-more, window-hit, window-end, long}
+use Rattle.state.proofs.Seen.{Unseen, unseen-none, window-more, window-hit, window-end}
 use Rattle.state.proofs.has_ref.Statement.{statement}
 use Rattle.state.proofs.has_ref.Tie as tie
 

@@ -1,0 +1,19 @@
+-- `permits::permitted` meets its contract: a search for the key. Assumes nothing.
+use Prim.Native.Nat.{ℕ}
+use mathlib.Core.Path.{ap, _∙_}
+use borrow.Author.Needs.{needs}
+use Rattle.meaning.specs.Lists.{member}
+use Rattle.permits.proofs.permitted.Statement.{statement}
+use Rattle.permits.proofs.permitted.Tie as tie
+
+exact-key-requires : tie.Need-exact-key-requires
+exact-key-requires c κs = search needs
+
+has-key-requires : tie.Need-has-key-requires
+has-key-requires c κs = search needs
+
+returns : tie.Need-returns
+returns c = c .has-key .ensures ∙ ap (λ (k : ℕ). member k (c .before .before .before .args .exact .now)) (c .before .exact-key .ensures)
+
+pub permitted-spec : {M : Type 1} → statement M
+permitted-spec = tie.close (tie.spec exact-key-requires has-key-requires returns)

@@ -145,8 +145,8 @@ module _ (cs : List ℕ) (r : ℕ) (h : r < length cs) where
   pub read-has : inPool (poolFrom 0 cs) r ≡ not (eqb (getD cs r 0) 0xFF)
   read-has = pool-has (poolFrom 0 cs) (plain-listed cs) r ∙ ap (λ (c : ℕ). not (eqb c 0xFF)) found
 
-  pub read-is : (P : Package) (b : ℕ) → isA P (poolFrom 0 cs) r b ≡ (not (eqb (getD cs r 0) 0xFF) && subtype P (getD cs r 0) b)
-  read-is P b = pool-is (poolFrom 0 cs) (plain-listed cs) r P b ∙ ap (λ (c : ℕ). not (eqb c 0xFF) && subtype P c b) found
+  pub read-test : {f : Object → Bool} (g : ℕ → Bool) → ((o : Object) → Decides (f o) ((o .ref ≡ r) × T (g (o .class)))) → any f (poolFrom 0 cs) ≡ (not (eqb (getD cs r 0) 0xFF) && g (getD cs r 0))
+  read-test g d = class-test (poolFrom 0 cs) (plain-listed cs) r g d ∙ ap (λ (c : ℕ). not (eqb c 0xFF) && g c) found
 
 -- ---- the array of a pool
 

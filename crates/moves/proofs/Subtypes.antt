@@ -73,3 +73,7 @@ module _ {P : Package} {rows : List ℕ} (s : Supers P rows) where
 pub read-below : (rows cs : List ℕ) (r b : ℕ) → r < length cs → any (objectBelow rows r b) (poolFrom 0 cs) ≡ (not (eqb (getD cs r 0) 0xFF) && belowBy rows (getD cs r 0) b)
 unfolding objectBelow
 read-below rows cs r b h = read-test cs r h (λ c. belowBy rows c b) (λ o. decides-and (decides-eq (o .ref) r) (decides-test (belowBy rows (o .class) b)))
+
+-- a test's answer, with what it says of every package that has these rows
+pub says : {rows : List ℕ} {x t : Bool} {u : Package → Bool} → ((P : Package) → Supers P rows → t ≡ u P) → x ≡ t → (x ≡ t) × ((P : Package) → Supers P rows → x ≡ u P)
+says law e = (e, λ P w. e ∙ law P w)

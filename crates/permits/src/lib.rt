@@ -3,9 +3,11 @@ ghost use mathlib.Core.Path.{_≡_};
 ghost use Prim.Native.Nat.{_≤_, _/_, _%_};
 ghost use lib.ListN.{getD};
 ghost use Rattle.meaning.specs.Lists.{member};
+ghost use Rattle.meaning.specs.Tables.{Package, fieldClass, fieldType};
+ghost use Rattle.runs.specs.Steps.{permits, permitsField};
 ghost use Rattle.tables.specs.View.{fieldsView, effectsView};
 ghost use Rattle.permits.specs.Made.{keysOf};
-ghost use Rattle.permits.specs.Keys.{pairOf, pairsOf, exactKey, alikeKey};
+ghost use Rattle.permits.specs.Keys.{pairOf, pairsOf, exactKey, alikeKey, Pairs, Exact, Alike};
 
 // A key for each effect, by the number that it names and by the field's declaring class and type, and their count.
 pub struct KeyTable {
@@ -83,6 +85,7 @@ fn has_key(keys: &[u32], key: u32) -> bool
 // Whether an effect of m has this op on the number x.
 pub fn permitted(exact: &[u32], m: u8, op: u8, x: u8) -> bool
     ensures { λ r. ⌜ r ≡ member (exactKey m op x) (now (exact .entry)) ⌝ }
+    ensures { λ r. ⌜ ((P : Package) → Exact P (now (exact .entry)) → r ≡ permits P m op x) ⌝ }
 {
     has_key(exact, exact_key(m, op, x))
 }
@@ -90,6 +93,7 @@ pub fn permitted(exact: &[u32], m: u8, op: u8, x: u8) -> bool
 // Whether an effect of m has this op on a field of the declaring class and type of f.
 pub fn permitted_field(alike: &[u32], pairs: &[u16; 256], m: u8, op: u8, f: u8) -> bool
     ensures { λ r. ⌜ r ≡ member (alikeKey m op (getD (now (pairs .entry)) f 0)) (now (alike .entry)) ⌝ }
+    ensures { λ r. ⌜ ((P : Package) → Pairs P (now (pairs .entry)) → Alike P (now (alike .entry)) → r ≡ permitsField P m op f) ⌝ }
 {
     let pair = pairs[f as usize];
     has_key(alike, alike_key(m, op, pair))
@@ -98,6 +102,7 @@ pub fn permitted_field(alike: &[u32], pairs: &[u16; 256], m: u8, op: u8, f: u8) 
 // The declaring class of a field.
 pub fn class_of(pairs: &[u16; 256], f: u8) -> u8
     ensures { λ r. ⌜ r ≡ getD (now (pairs .entry)) f 0 / 256 % 256 ⌝ }
+    ensures { λ r. ⌜ ((P : Package) → Pairs P (now (pairs .entry)) → r ≡ fieldClass P f) ⌝ }
 {
     (pairs[f as usize] / 256 % 256) as u8
 }
@@ -105,6 +110,7 @@ pub fn class_of(pairs: &[u16; 256], f: u8) -> u8
 // The type of a field.
 pub fn type_of(pairs: &[u16; 256], f: u8) -> u8
     ensures { λ r. ⌜ r ≡ getD (now (pairs .entry)) f 0 % 256 ⌝ }
+    ensures { λ r. ⌜ ((P : Package) → Pairs P (now (pairs .entry)) → r ≡ fieldType P f) ⌝ }
 {
     (pairs[f as usize] % 256) as u8
 }

@@ -2,3 +2,4 @@ pub mod Seen
 pub mod Pool
 pub mod Packed
 pub mod Added
+pub mod Premises

@@ -9,6 +9,7 @@ use Rattle.tables.proofs.Access.{long}
 use Rattle.state.specs.View.{noLabel, labelView, frameView}
 use Rattle.state.proofs.Seen.{Unseen, unseen-none, window-more, window-hit, window-end}
 use Rattle.moves.specs.Below.{labelBelow}
+use Rattle.moves.proofs.Subtypes.{holds-below, says}
 use Rattle.moves.proofs.has_below.Statement.{statement}
 use Rattle.moves.proofs.has_below.Tie as tie
 
@@ -44,7 +45,7 @@ returns : tie.Need-returns Inv-loop μ-loop
 unfolding frameView
 returns c =
     let s = c .before .before .before .before in
-    window-hit labelView (s .before .args .t2) _ _ (fits (s .before)) _ noLabel (s .loop .i) (s .loop .inv .1) (search needs) (sym (c .before .label-below .ensures) ∙ c .if1 .taken)
+    says (λ P w. holds-below w _ _ _) (window-hit labelView (s .before .args .t2) _ _ (fits (s .before)) _ noLabel (s .loop .i) (s .loop .inv .1) (search needs) (sym (c .before .label-below .ensures) ∙ c .if1 .taken))
 
 add-i : tie.Need-add-i Inv-loop μ-loop
 add-i c = search needs
@@ -60,7 +61,7 @@ loop-again c =
 
 returns-2 : tie.Need-returns-2 Inv-loop μ-loop
 unfolding frameView
-returns-2 c = let s = c .before in window-end labelView (s .before .args .t2) _ _ (fits (s .before)) _ noLabel (s .loop .i) (s .loop .inv .1) (search needs)
+returns-2 c = let s = c .before in says (λ P w. holds-below w _ _ _) (window-end labelView (s .before .args .t2) _ _ (fits (s .before)) _ noLabel (s .loop .i) (s .loop .inv .1) (search needs))
 
 pub has-below-spec : {M : Type 1} → statement M
 has-below-spec =

@@ -14,7 +14,7 @@ below-requires c κs = search needs
 
 returns-2 : tie.Need-returns-2
 unfolding labelBelow
-returns-2 c = rw (eq-eqb _ _ (c .before .if1 .left)) (c .below .ensures)
+returns-2 c = rw (eq-eqb _ _ (c .before .if1 .left)) (c .below .ensures .0)
 
 pub label-below-spec : {M : Type 1} → statement M
 label-below-spec = tie.close (tie.spec returns below-requires returns-2)

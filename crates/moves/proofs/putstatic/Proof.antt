@@ -1,0 +1,56 @@
+-- `moves::putstatic` meets its contract: each test is the definition's, in its order, of the link that the field has. Assumes nothing.
+use Prim.Native.Nat.{ℕ}
+use mathlib.Core.Path.{ap, _∙_}
+use borrow.Author.Needs.{needs}
+use Rattle.runs.specs.Machine.{Link}
+use Rattle.state.specs.View.{view}
+use Rattle.state.proofs.Premises.{missing, held}
+use Rattle.runs.specs.Steps.{holds, link, step}
+use Rattle.state.specs.Fine.{doneOf}
+use Rattle.moves.proofs.putstatic.Statement.{statement}
+use Rattle.moves.proofs.putstatic.Tie as tie
+
+permitted-field-requires : tie.Need-permitted-field-requires
+permitted-field-requires c κs = search needs
+
+returns : tie.Need-returns
+unfolding step view
+returns c = λ P p x. rw (missing (c .before .permitted-field .ensures .1 P p x) (c .if1 .taken))
+
+link-of-requires : tie.Need-link-of-requires
+link-of-requires c κs = search needs
+
+has-label-requires : tie.Need-has-label-requires
+has-label-requires c κs = search needs
+
+returns-2 : tie.Need-returns-2
+unfolding step view
+returns-2 c = λ P p x.
+    rw (
+      held (c .before .before .before .before .before .permitted-field .ensures .1 P p x) (c .before .before .before .before .if1 .left),
+      missing (c .before .has-label .ensures ∙ ap (holds (view (c .before .before .before .before .before .before .before .args .s) .labels) (c .before .before .before .before .before .before .before .args .q)) (ap (λ (k : Link). k .type) (c .before .before .before .link-of .ensures P p))) (c .if2 .taken),
+    )
+
+add-link-requires : tie.Need-add-link-requires
+add-link-requires c κs = search needs
+
+returns-3 : tie.Need-returns-3
+unfolding step view
+returns-3 c = λ P p x.
+    rw (
+      held (c .before .before .before .before .before .before .permitted-field .ensures .1 P p x) (c .before .before .before .before .before .if1 .left),
+      held (c .before .before .has-label .ensures ∙ ap (holds (view (c .before .before .before .before .before .before .before .before .args .s) .labels) (c .before .before .before .before .before .before .before .before .args .q)) (ap (λ (k : Link). k .type) (c .before .before .before .before .link-of .ensures P p))) (c .before .if2 .left),
+    )
+    (c .add-link .ensures ∙ ap (λ (k : Link). doneOf (c .before .before .before .before .before .before .before .before .args .s) (link (view (c .before .before .before .before .before .before .before .before .args .s)) k)) (c .before .before .before .before .link-of .ensures P p))
+
+pub putstatic-spec : {M : Type 1} → statement M
+putstatic-spec =
+    tie.close
+    (tie.spec
+    permitted-field-requires
+    returns
+    link-of-requires
+    has-label-requires
+    returns-2
+    add-link-requires
+    returns-3)

@@ -1,0 +1,24 @@
+-- `moves::widen` meets its contract: each test is the definition's, in its order. Assumes nothing.
+use borrow.Author.Needs.{needs}
+use Rattle.runs.specs.Steps.{step}
+use Rattle.state.specs.View.{view}
+use Rattle.state.proofs.Premises.{missing, held}
+use Rattle.moves.proofs.widen.Statement.{statement}
+use Rattle.moves.proofs.widen.Tie as tie
+
+has-below-requires : tie.Need-has-below-requires
+has-below-requires c κs = search needs
+
+returns : tie.Need-returns
+unfolding step view
+returns c = λ P w. rw (missing (c .before .has-below .ensures .1 P w) (c .if1 .taken))
+
+add-label-requires : tie.Need-add-label-requires
+add-label-requires c κs = search needs
+
+returns-2 : tie.Need-returns-2
+unfolding step view
+returns-2 c = λ P w. rw (held (c .before .before .has-below .ensures .1 P w) (c .before .if1 .left)) (c .add-label .ensures)
+
+pub widen-spec : {M : Type 1} → statement M
+widen-spec = tie.close (tie.spec has-below-requires returns add-label-requires returns-2)

@@ -1,1 +1,2 @@
 pub mod Subtypes
+pub mod Fields

@@ -1,12 +1,9 @@
 -- `moves::putstatic` meets its contract: each test is the definition's, in its order, of the link that the field has. Assumes nothing.
-use Prim.Native.Nat.{ℕ}
-use mathlib.Core.Path.{ap, _∙_}
 use borrow.Author.Needs.{needs}
-use Rattle.runs.specs.Machine.{Link}
+use Rattle.runs.specs.Steps.{step}
 use Rattle.state.specs.View.{view}
 use Rattle.state.proofs.Premises.{missing, held}
-use Rattle.runs.specs.Steps.{holds, link, step}
-use Rattle.state.specs.Fine.{doneOf}
+use Rattle.moves.proofs.Fields.{putstatic-of}
 use Rattle.moves.proofs.putstatic.Statement.{statement}
 use Rattle.moves.proofs.putstatic.Tie as tie
 
@@ -24,24 +21,21 @@ has-label-requires : tie.Need-has-label-requires
 has-label-requires c κs = search needs
 
 returns-2 : tie.Need-returns-2
-unfolding step view
+unfolding view
 returns-2 c = λ P p x.
-    rw (
-      held (c .before .before .before .before .before .permitted-field .ensures .1 P p x) (c .before .before .before .before .if1 .left),
-      missing (c .before .has-label .ensures ∙ ap (holds (view (c .before .before .before .before .before .before .before .args .s) .labels) (c .before .before .before .before .before .before .before .args .q)) (ap (λ (k : Link). k .type) (c .before .before .before .link-of .ensures P p))) (c .if2 .taken),
-    )
+    let a = c .before .before .before .before .before .before .before .args in
+    putstatic-of P (a .s) (view (a .s)) (a .f) (a .q) _ (c .before .before .before .link-of .ensures P p)
+    (rw (held (c .before .before .before .before .before .permitted-field .ensures .1 P p x) (c .before .before .before .before .if1 .left), missing (c .before .has-label .ensures) (c .if2 .taken)))
 
 add-link-requires : tie.Need-add-link-requires
 add-link-requires c κs = search needs
 
 returns-3 : tie.Need-returns-3
-unfolding step view
+unfolding view
 returns-3 c = λ P p x.
-    rw (
-      held (c .before .before .before .before .before .before .permitted-field .ensures .1 P p x) (c .before .before .before .before .before .if1 .left),
-      held (c .before .before .has-label .ensures ∙ ap (holds (view (c .before .before .before .before .before .before .before .before .args .s) .labels) (c .before .before .before .before .before .before .before .before .args .q)) (ap (λ (k : Link). k .type) (c .before .before .before .before .link-of .ensures P p))) (c .before .if2 .left),
-    )
-    (c .add-link .ensures ∙ ap (λ (k : Link). doneOf (c .before .before .before .before .before .before .before .before .args .s) (link (view (c .before .before .before .before .before .before .before .before .args .s)) k)) (c .before .before .before .before .link-of .ensures P p))
+    let a = c .before .before .before .before .before .before .before .before .args in
+    putstatic-of P (a .s) (view (a .s)) (a .f) (a .q) _ (c .before .before .before .before .link-of .ensures P p)
+    (rw (held (c .before .before .before .before .before .before .permitted-field .ensures .1 P p x) (c .before .before .before .before .before .if1 .left), held (c .before .before .has-label .ensures) (c .before .if2 .left)) (c .add-link .ensures))
 
 pub putstatic-spec : {M : Type 1} → statement M
 putstatic-spec =

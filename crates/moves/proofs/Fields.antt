@@ -3,7 +3,7 @@
 use Prim.Native.Nat.{ℕ}
 use mathlib.Core.Path.{_≡_, subst}
 use Rattle.meaning.specs.Tables.{Package}
-use Rattle.meaning.specs.Reading.{Took, takes, refuses, need}
+use Rattle.meaning.specs.Reading.{Took, need}
 use Rattle.runs.specs.Machine as M
 use Rattle.runs.specs.Machine.{Link, getstatic, putstatic, getfield, putfield, staticLink, fieldLink}
 use Rattle.runs.specs.Steps.{permitsField, holds, holdsBelow, hasLink, join, link, step}

@@ -2,11 +2,11 @@
 -- Assumes nothing.
 use Prim.Native.Nat.{ℕ, _<_}
 use native.Mathlib.Omega.{arith}
-use mathlib.Core.Path.{_≡_, refl, sym, ap, _∙_}
+use mathlib.Core.Path.{_≡_, refl, _∙_}
 use mathlib.Core.Logic.{_⊎_, inl, inr}
-use mathlib.Core.Bool.{Bool, true, false, _&&_, _||_, not}
+use mathlib.Core.Bool.{Bool, _&&_, not}
 use mathlib.Core.List.{List}
-use lib.Dec.{T, eqb, ltb, ltb→lt, lt→ltb}
+use lib.Dec.{T, eqb, ltb, lt→ltb}
 use lib.ListN.{length, getD}
 use Rattle.meaning.specs.Lists.{any}
 use Rattle.meaning.specs.Tables.{Package}
@@ -16,7 +16,7 @@ use Rattle.meaning.proofs.Bools.{both, and, decides-eq, decides-lt, decides-tes
 use Rattle.meaning.proofs.Trust.{Rising, decides-subtype, subtype-sound, subtype-complete, subtype-le, has-supers, good-rising}
 use Rattle.runs.specs.Machine.{Label, Object}
 use Rattle.runs.specs.Steps.{isBelow, holdsBelow, isObjectBelow, isA}
-use Rattle.bits.specs.Rows.{among, rowBit, wide}
+use Rattle.bits.specs.Rows.{among, rowBit}
 use Rattle.bits.proofs.RowLaws.{wide-bit}
 use Rattle.state.specs.View.{poolFrom}
 use Rattle.state.proofs.Pool.{read-test}

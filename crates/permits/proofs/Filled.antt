@@ -3,8 +3,8 @@
 use Prim.Native.Nat.{ℕ, _+_, _≤_, _<_}
 use native.Mathlib.Nat.{le-antisymm}
 use native.Mathlib.Omega.{arith}
-use mathlib.Core.Path.{_≡_, refl, sym, ap, _∙_}
-use mathlib.Core.List.{List, [], _∷_, _++_, map, map-append}
+use mathlib.Core.Path.{_≡_, sym, ap, _∙_}
+use mathlib.Core.List.{List, [], _∷_, map, map-append}
 use lib.ListN.{length, take, getD, set, length-map}
 use Rattle.tables.specs.Pack.{pad}
 use Rattle.tables.proofs.Pack.{pad-more}

@@ -4,7 +4,7 @@ use Prim.Native.Nat.{ℕ, _<_, _+_, _*_, _/_, _%_}
 use native.Mathlib.Omega.{arith}
 use native.Mathlib.Decide.{decLt}
 use mathlib.Core.Path.{_≡_, refl, sym, ap, ap₂, subst, _∙_}
-use mathlib.Core.Bool.{Bool, true, false, _&&_, _||_, cond}
+use mathlib.Core.Bool.{Bool, true, false, _||_, cond}
 use mathlib.Core.List.{List, [], _∷_, map, List·Memᴰ·head, List·Memᴰ·tail}
 use lib.Dec.{T, eqb, leb, ltb, ltb→lt}
 use lib.ListN.{length, getD, List·getD-map}
@@ -12,7 +12,7 @@ use Rattle.meaning.specs.Lists.{In, any, member}
 use Rattle.meaning.specs.Tables.{Package, Field, Effect, noField, noEffect, fieldAt, methodAt, fieldClass, fieldType, opOf, namedBy}
 use Rattle.meaning.specs.Reading.{isClass, isType, isField, isMethodOf, isNamed}
 use Rattle.meaning.specs.Good.{Good}
-use Rattle.meaning.proofs.Bools.{both, Decides, decides-eq, decides-and, decides-as, decides-same}
+use Rattle.meaning.proofs.Bools.{both, decides-eq, decides-and, decides-as, decides-same}
 use Rattle.meaning.proofs.Lists.{in-getD, getD-absent}
 use Rattle.runs.specs.Steps.{isEffect, permits, likeField, isFieldEffect, permitsField}
 use Rattle.tables.proofs.Access.{pad-zero}

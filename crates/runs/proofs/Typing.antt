@@ -112,10 +112,10 @@ nothing-fits ok (some c) = (λ m. absurd (not-suc-le-self 0xFF (ok .objects .ref
 
 -- ---- the limits
 
-within-label : {s : State} {r c : ℕ} → RoomFor 32 (label r c) (s .labels) → Within s → Within (withLabel s r c)
+pub within-label : {s : State} {r c : ℕ} → RoomFor 32 (label r c) (s .labels) → Within s → Within (withLabel s r c)
 within-label {s} {r} {c} room w = record { links = w .links; labels = room-add decides-sameLabel 32 (label r c) (s .labels) room (w .labels); saved = w .saved; frames = w .frames }
 
-within-link : {s : State} {k : Link} → RoomFor 256 k (s .links) → Within s → Within (withLink s k)
+pub within-link : {s : State} {k : Link} → RoomFor 256 k (s .links) → Within s → Within (withLink s k)
 within-link {s} {k} room w = record { links = room-add decides-sameLink 256 k (s .links) room (w .links); labels = w .labels; saved = w .saved; frames = w .frames }
 
 within-called : {s : State} (c : Option ℕ) (v : ℕ) (ls : List Label) → length ls ≤ 32 → length (s .saved) < 16 → Within s → Within (called s c v ls)

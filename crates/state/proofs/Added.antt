@@ -1,7 +1,7 @@
 -- What the set operations on a fine state come to: an item that is there leaves the very state, a full set refuses with 63, and a new item is
 -- one store.
 -- Assumes nothing.
-use Prim.Native.Nat.{ℕ, _+_, _*_, _≤_, _<_}
+use Prim.Native.Nat.{ℕ, _+_, _≤_, _<_}
 use native.Mathlib.Omega.{arith}
 use mathlib.Core.Path.{_≡_, refl, sym, ap, _∙_}
 use mathlib.Core.Bool.{Bool, true, false}
@@ -11,13 +11,12 @@ use borrow.Author.Tests.{le-ltb, lt-ltb}
 use Rattle.meaning.specs.Lists.{any}
 use Rattle.meaning.specs.Reading.{Took, takes, refuses, need}
 use Rattle.runs.specs.Machine as M
-use Rattle.runs.specs.Machine.{label, object, sameLabel, sameLink, sameObject, add, withLabel, withObject, withLink}
+use Rattle.runs.specs.Machine.{label, sameLabel, sameLink, add, withLabel, withObject}
 use Rattle.runs.specs.Steps.{holds, hasLink, inPool, roomFor, join, make, link}
-use Rattle.state.specs.declared.Label.{Label}
 use Rattle.state.specs.declared.Link.{Link}
 use Rattle.state.specs.declared.State.{State}
 use Rattle.state.specs.declared.Done.{Done}
-use Rattle.state.specs.View.{linkView, packLabel, packLink, view, pack}
+use Rattle.state.specs.View.{linkView, view, pack}
 use Rattle.state.specs.Fine.{Fine, done, refused, doneOf}
 use Rattle.state.proofs.Pool.{new-object, pool-more}
 use Rattle.state.proofs.Packed.{fine-within, storeLabel, storeLink, withLabels, withLinks, label-more, link-more}

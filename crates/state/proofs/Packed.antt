@@ -1,16 +1,15 @@
 -- Packing and viewing a state: a packed state is viewed as it was, but that its pool is sorted; packed states are fine; and one label, link
 -- or object more is one store.
 -- Assumes nothing.
-use Prim.Native.Nat.{ℕ, zero, suc, _+_, _*_, _-_, _≤_, _<_, min}
+use Prim.Native.Nat.{ℕ, zero, suc, _+_, _*_, _-_, _≤_, _<_}
 use native.Mathlib.Omega.{arith}
-use native.Mathlib.Numerals.{add-one}
-use mathlib.Core.Path.{_≡_, refl, sym, ap, ap₂, _∙_}
+use mathlib.Core.Path.{_≡_, refl, sym, ap, _∙_}
 use mathlib.Core.Bool.{Bool, true, false, cond}
 use mathlib.Core.Logic.{_⊎_, inl, inr}
 use mathlib.Core.Option.{Option, none, some}
 use mathlib.Core.List.{List, [], _∷_, _++_, map, append-assoc, map-append, List·Memᴰ·head, List·Memᴰ·tail, List·Memᴰ·append-cases}
 use lib.Dec.{eqb}
-use lib.ListN.{length, take, drop, getD, set, replicate, length-append, length-map, length-take, length-drop}
+use lib.ListN.{length, take, drop, getD, set, replicate, length-append, length-map, length-take}
 use lib.Seq.{take-at, drop-at, getD-at}
 use borrow.Author.Tests.{eqb-true}
 use Rattle.meaning.specs.Lists.{In}
@@ -18,14 +17,13 @@ use Rattle.meaning.specs.Tables.{typeOrNone}
 use Rattle.runs.specs.Machine as M
 use Rattle.runs.specs.Admitted.{Within}
 use Rattle.tables.specs.Pack.{pad}
-use Rattle.tables.proofs.Pack.{pad-length, pad-take, pad-at, pad-more, unmap, viewed}
+use Rattle.tables.proofs.Pack.{pad-length, pad-at, pad-more, unmap, viewed}
 use Rattle.state.specs.declared.Label.{Label}
 use Rattle.state.specs.declared.Link.{Link}
 use Rattle.state.specs.declared.Saved.{Saved}
 use Rattle.state.specs.declared.State.{State}
 use Rattle.state.specs.View.{noLabel, noLink, noSaved, labelView, linkView, frameView, savedView, poolFrom, view, packLabel, packLink, packSaved, packContexts, packFrames, packPool, orFF, pack}
 use Rattle.state.specs.Fine.{Fine}
-use Rattle.state.proofs.Seen.{window-length}
 use Rattle.state.proofs.Pool.{pack-listed, pack-long}
 
 -- ---- what a packed state is viewed as

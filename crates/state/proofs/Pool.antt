@@ -1,6 +1,6 @@
 -- The pool: the array of classes lists the objects in rising order, and a pool in which each reference is once is known by its array.
 -- Assumes nothing.
-use Prim.Native.Nat.{ℕ, zero, suc, _+_, _<_, zero-le, suc-le-suc}
+use Prim.Native.Nat.{ℕ, zero, suc, _+_, _<_}
 use native.Mathlib.Nat.{le-of-suc-le-suc, not-suc-le-zero}
 use native.Mathlib.Decide.{ℕ-discrete}
 use native.Mathlib.Omega.{arith}
@@ -18,7 +18,6 @@ use Rattle.meaning.proofs.Bools.{fails-false, false-fails, Decides, decides-as,
 use Rattle.runs.specs.Machine.{Object, object, sameObject}
 use Rattle.runs.specs.Steps.{isNumbered, inPool, isObjectBelow, isA}
 use Rattle.runs.proofs.Tests.{decides-object, decides-in, decides-sameObject, decides-inPool}
-use Rattle.bits.specs.Rows.{listed}
 use Rattle.bits.proofs.RowLaws.{length-listed, getD-listed, listed-of}
 use Rattle.state.specs.View.{poolFrom, classIn, packPool}
 
@@ -33,7 +32,7 @@ plain-tail : {o : Object} {os : List Object} → Plain (o ∷ os) → Plain os
 plain-tail p = record { once = λ x y m n. p .once x y (List·Memᴰ·tail m) (List·Memᴰ·tail n); real = λ x m. p .real x (List·Memᴰ·tail m) }
 
 -- the class that is found is that of an object
-class-in : (os : List Object) (r : ℕ) → (classIn os r ≡ 0xFF → ⊥) → In (object r (classIn os r)) os
+pub class-in : (os : List Object) (r : ℕ) → (classIn os r ≡ 0xFF → ⊥) → In (object r (classIn os r)) os
 unfolding classIn
 class-in [] r n = absurd (n refl)
 class-in (o ∷ os) r n = on (eqb (o .ref) r) refl n (λ m. class-in os r m)
@@ -172,12 +171,12 @@ neither : (a b : Bool) → (a || b) ≡ false → (a ≡ false) × (b ≡ false)
 neither true b e = (e, cc)
 neither false b e = (refl, e)
 
-class-new : (os : List Object) (r c : ℕ) → inPool os r ≡ false → classIn (os ++ (object r c ∷ [])) r ≡ c
+pub class-new : (os : List Object) (r c : ℕ) → inPool os r ≡ false → classIn (os ++ (object r c ∷ [])) r ≡ c
 unfolding classIn inPool isNumbered any
 class-new [] r c e = rw (eq-eqb r r refl)
 class-new (o ∷ os) r c e = let n = neither (eqb (o .ref) r) (any (isNumbered r) os) e in rw (n .0) (class-new os r c (n .1))
 
-class-other : (os : List Object) (r c i : ℕ) → (i ≡ r → ⊥) → classIn (os ++ (object r c ∷ [])) i ≡ classIn os i
+pub class-other : (os : List Object) (r c i : ℕ) → (i ≡ r → ⊥) → classIn (os ++ (object r c ∷ [])) i ≡ classIn os i
 unfolding classIn
 class-other [] r c i n = rw (ne-eqb r i (λ e. n (sym e)))
 class-other (o ∷ os) r c i n = rw (class-other os r c i n)

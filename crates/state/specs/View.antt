@@ -1,13 +1,12 @@
 -- What the run state means: `runs`' state. Behind each count stands the zero element, so that of two states with one meaning both are
 -- one value: `pack (view s)`.
 -- Assumes nothing.
-use Prim.Native.Nat.{ℕ, zero, suc, _+_, _*_, _-_, _/_, _%_, _≤_, _<_}
-use mathlib.Core.Path.{_≡_}
-use mathlib.Core.Bool.{Bool, true, false, cond}
+use Prim.Native.Nat.{ℕ, zero, suc, _+_, _*_}
+use mathlib.Core.Bool.{cond}
 use mathlib.Core.Option.{Option, none, some}
 use mathlib.Core.List.{List, [], _∷_, _++_, map}
 use lib.Dec.{eqb}
-use lib.ListN.{length, take, drop, getD, replicate}
+use lib.ListN.{length, take, drop, getD}
 use Rattle.meaning.specs.Tables.{typeOrNone}
 use Rattle.runs.specs.Machine as M
 use Rattle.tables.specs.Pack.{pad}

@@ -1,10 +1,9 @@
 // The run state by value: flat arrays of links, labels and saved contexts with their counts, and the pool. What it means is specs/View.antt.
 ghost use mathlib.Core.Path.{_≡_};
-ghost use mathlib.Core.Bool.{false, not};
+ghost use mathlib.Core.Bool.{false};
 ghost use Prim.Native.Nat.{_+_, _*_, _≤_, _<_};
-ghost use lib.ListN.{getD};
 ghost use Rattle.runs.specs.Machine.{label, sameLabel, sameLink};
-ghost use Rattle.runs.specs.Steps.{isOf, holds, holdsRef, hasLink, inPool, join, make, link};
+ghost use Rattle.runs.specs.Steps.{holds, holdsRef, hasLink, inPool, join, make, link};
 ghost use Rattle.state.specs.View.{labelView, linkView, frameView, linksView, poolFrom, view, pack, nothingOf};
 ghost use Rattle.state.specs.Fine.{Fine, doneOf};
 

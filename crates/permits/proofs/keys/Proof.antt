@@ -3,7 +3,7 @@
 use Prim.Native.Nat.{_≤_, _<_, _-_}
 use native.Mathlib.Omega.{arith}
 use mathlib.Core.Path.{_≡_, refl, sym}
-use lib.ListN.{length, getD}
+use lib.ListN.{length}
 use borrow.Author.Needs.{needs}
 use Rattle.tables.specs.View.{effectView, effectsView, zeroEffect}
 use Rattle.tables.specs.Pack.{pad}

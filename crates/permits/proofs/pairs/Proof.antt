@@ -1,11 +1,10 @@
 -- `permits::pairs` meets its contract. The loop's invariant: the array has the pairs of the fields passed.
 -- Assumes nothing.
-use Prim.Native.Nat.{_≤_, _<_, _-_}
+use Prim.Native.Nat.{_≤_, _-_}
 use native.Mathlib.Omega.{arith}
 use mathlib.Core.Path.{_≡_, refl}
-use lib.ListN.{length, getD}
+use lib.ListN.{length}
 use borrow.Author.Needs.{needs}
-use Rattle.tables.specs.declared.Field.{Field}
 use Rattle.tables.specs.View.{fieldView, fieldsView, zeroField}
 use Rattle.tables.specs.Pack.{pad}
 use Rattle.tables.proofs.Access.{long}

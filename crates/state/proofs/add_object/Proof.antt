@@ -1,5 +1,5 @@
 -- `state::add_object` meets its contract: where the label joins, the class is one store more. Assumes nothing.
-use mathlib.Core.Path.{_≡_, sym, ap, _∙_}
+use mathlib.Core.Path.{sym, ap, _∙_}
 use borrow.Author.Needs.{needs}
 use Rattle.state.specs.declared.Done.{Done}
 use Rattle.state.specs.Fine.{done}

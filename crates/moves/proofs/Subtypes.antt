@@ -18,6 +18,7 @@ use Rattle.runs.specs.Machine.{Label, Object}
 use Rattle.runs.specs.Steps.{isBelow, holdsBelow, isObjectBelow, isA}
 use Rattle.bits.specs.Rows.{among, rowBit}
 use Rattle.bits.proofs.RowLaws.{wide-bit}
+use Rattle.trust.specs.Relations.{subtypeRows}
 use Rattle.state.specs.View.{poolFrom}
 use Rattle.state.proofs.Pool.{read-test}
 use Rattle.moves.specs.Below.{Supers, belowBy, labelBelow, objectBelow}
@@ -27,6 +28,7 @@ module _ {P : Package} {rows : List ℕ} (s : Supers P rows) where
   count = length (P .classes)
 
   row-is : (a b : ℕ) → a < 127 → b < 127 → rowBit rows a b ≡ among count (subtype P) a b
+  unfolding subtypeRows
   row-is a b h l = rw (s .are) (wide-bit count (subtype P) a b h (omega arith))
 
   up : Rising P

@@ -5,17 +5,16 @@ use mathlib.Core.Path.{_≡_}
 use mathlib.Core.Bool.{Bool, _&&_, _||_}
 use mathlib.Core.List.{List}
 use lib.Dec.{eqb, ltb}
-use lib.ListN.{length}
 use Rattle.meaning.specs.Tables.{Package}
 use Rattle.meaning.specs.Good.{Good}
-use Rattle.meaning.specs.Tests.{subtype}
 use Rattle.runs.specs.Machine.{Label, Object}
-use Rattle.bits.specs.Rows.{rowBit, wide}
+use Rattle.bits.specs.Rows.{rowBit}
+use Rattle.trust.specs.Relations.{subtypeRows}
 
 -- the rows of a package: a bit for each supertype of each class
 pub record Supers (P : Package) (rows : List ℕ) : Type 0 where
   pub good : Good P
-  pub are : rows ≡ wide (length (P .classes)) (subtype P)
+  pub are : rows ≡ subtypeRows P
 
 -- a number that is not declared is below itself alone
 unfoldable pub belowBy : List ℕ → ℕ → ℕ → Bool

@@ -105,12 +105,14 @@ pub fn new(s: State, exact: &[u32], r: u8, b: u8) -> Done
     requires { ⌜ ((P : Package) × Exact P (now exact)) ⌝ }
     ensures { λ d. ⌜ ((P : Package) → Exact P (now (exact .entry)) → d ≡ doneOf s (step P (view s) (new r b))) ⌝ }
 {
-    if !permits::permitted(exact, s.method, 0, b) {
-        return Done { code: 61, state: s };
-    }
     let pool = s.pool;
-    if state::in_pool(pool, r) {
-        return Done { code: 62, state: s };
+    let taken = state::in_pool(pool, r);
+    let allowed = permits::permitted(exact, s.method, 0, b);
+    if !allowed {
+        return Done { code: 61, state: s }; // whether or not the number is taken
+    }
+    if taken {
+        return Done { code: 62, state: s }; // no new number
     }
     state::add_object(s, r, b)
 }

@@ -1,3 +1,4 @@
+pub mod Noted
 pub mod Filled
 pub mod Permits
 pub mod Prepared

@@ -69,17 +69,19 @@ pub fn keys(effects: tables::Effects, pairs: &[u16; 256]) -> KeyTable
     }
 }
 
+// All are gone through, and none is left early: so the machine compares several at once.
 fn has_key(keys: &[u32], key: u32) -> bool
     ensures { λ r. ⌜ r ≡ member key (now (keys .entry)) ⌝ }
 {
+    let mut found = false;
     let mut i = 0;
     while i < keys.len() {
         if keys[i] == key {
-            return true;
+            found = true;
         }
         i += 1;
     }
-    false
+    found
 }
 
 // Whether an effect of m has this op on the number x.

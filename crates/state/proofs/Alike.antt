@@ -3,7 +3,7 @@
 use Prim.Native.Nat.{ℕ, _<_}
 use native.Mathlib.Decide.{ℕ-discrete, decLt}
 use native.Mathlib.Omega.{arith}
-use mathlib.Core.Path.{_≡_, refl, sym, ap, _∙_}
+use mathlib.Core.Path.{_≡_, refl, sym, ap, subst, _∙_}
 use mathlib.Core.Bool.{Bool, true, false, _&&_, not, cond}
 use mathlib.Core.Option.{Option, none, some, Option·none-ne-some}
 use mathlib.Core.List.{List, [], _∷_, _++_, map, List·Memᴰ·head, List·Memᴰ·tail}
@@ -166,6 +166,9 @@ settled P g ty w o =
       small = λ x m. omega (arith, ty .objects .references x m);
       owed = o;
     }
+
+pub owed-bottom : (t : M.State) → t .saved ≡ [] → Owed t
+owed-bottom t e k m q = elim (subst (λ (ks : List Saved). In k ks) e m) [ ]
 
 result-owed : (r : ℕ) → typeOrNone r ≡ some 0xFF → ⊥
 result-owed r = on (eqb r 0xFF) refl

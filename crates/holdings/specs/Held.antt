@@ -1,6 +1,6 @@
 -- What a run state holds, by the arrays that say which class declares a method and in which domain a class lies: `runs`' holdings, in their order.
 -- Assumes nothing.
-use Prim.Native.Nat.{ℕ, zero, suc, _+_, _*_, _≤_, _<_}
+use Prim.Native.Nat.{ℕ, zero, suc, _+_, _*_, _≤_}
 use mathlib.Core.Path.{_≡_}
 use mathlib.Core.Bool.{cond}
 use mathlib.Core.List.{List, [], _++_, map}
@@ -15,13 +15,6 @@ use Rattle.state.specs.declared.Label.{Label}
 use Rattle.state.specs.declared.Link.{Link}
 use Rattle.state.specs.declared.Saved.{Saved}
 use Rattle.state.specs.declared.State.{State}
-
--- the counts of a run state are within its arrays
-pub record Counted (s : State) : Type 0 where
-  pub labels : s .n ≤ 32
-  pub depth : s .depth ≤ 16
-  pub links : s .nlinks ≤ 256
-  pub saved : (d : ℕ) → d < s .depth → getD (s .saved) d noSaved .n ≤ 32
 
 -- the arrays say of a package which class declares each method and in which domain each class lies
 pub record Looked (P : Package) (owners homes : List ℕ) : Type 0 where

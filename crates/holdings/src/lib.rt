@@ -10,7 +10,8 @@ ghost use Rattle.meaning.specs.Tables.{Package};
 ghost use Rattle.runs.specs.Holdings.{holding, key, lineOf, textOf, holdingsText};
 ghost use Rattle.runs.proofs.Sorted.{Bytes};
 ghost use Rattle.state.specs.View.{view};
-ghost use Rattle.holdings.specs.Held.{Counted, Looked, homeIn, runsIn, labelled, linked, framesHeld, Adds};
+ghost use Rattle.state.specs.Fine.{Fine};
+ghost use Rattle.holdings.specs.Held.{Looked, homeIn, runsIn, labelled, linked, framesHeld, Adds};
 ghost use Rattle.holdings.specs.Lines.{noKey, holdingOf, linesOf, Put};
 
 // A key has three bytes: this is none.
@@ -80,7 +81,7 @@ fn link_keys(keys: &mut [u32], at: usize, links: [state::Link; 256], n: usize, h
 
 // The keys of all frames, the running one first and then the newest; how many they are.
 fn frame_keys(keys: &mut [u32], s: state::State, owners: &[u8; 256], homes: &[u8; 127]) -> usize
-    requires { ⌜ Counted s ⌝ }
+    requires { ⌜ Fine s ⌝ }
     requires { ⌜ 544 ≤ length (now keys) ⌝ }
     ensures { λ r. ⌜ (r ≤ 544) × Adds (framesHeld (now (owners .entry)) (now (homes .entry)) s) 0 r (now (keys .entry)) (now (keys .exit)) ⌝ }
 {
@@ -153,7 +154,7 @@ pub fn write_holdings(
     homes: &[u8; 127],
     out: &mut [u8],
 ) -> usize
-    requires { ⌜ Counted s ⌝ }
+    requires { ⌜ Fine s ⌝ }
     requires { ⌜ 7200 ≤ length (now out) ⌝ }
     ensures { λ r. ⌜ ((P : Package) → Looked P (now (owners .entry)) (now (homes .entry)) → Put (holdingsText P (view s)) (now (out .entry)) r (now (out .exit))) ⌝ }
 {

@@ -12,7 +12,7 @@ use Rattle.meaning.specs.Lists.{In}
 use Rattle.meaning.specs.Tables.{Package, Class, noClass, home, ownerOf}
 use Rattle.runs.specs.Holdings.{Holding, holding, ofLabel, ofLink, ofSaved, holdings, key, sorted, textOf}
 use Rattle.runs.proofs.Sorted.{Bytes, KeyRising, in-sorted, sorted-in, sorted-keys}
-use Rattle.state.specs.View.{noSaved, labelView, linkView, frameView, savedView, linksView, view}
+use Rattle.state.specs.View.{noSaved, labelView, linkView, frameView, savedView, view}
 use Rattle.state.specs.declared.Label.{Label}
 use Rattle.state.specs.declared.Link.{Link}
 use Rattle.state.specs.declared.Saved.{Saved}
@@ -53,7 +53,7 @@ module _ (P : Package) (owners homes : List ℕ) (k : Looked P owners homes) whe
   links-held (l ∷ ls) = ap₂ (λ x xs. holding x (l .target) (l .typ) ∷ xs) (sym (home-in (l .declared))) (links-held ls)
 
   pub held-holdings : (s : State) → framesHeld owners homes s ++ map (linked homes) (take (s .nlinks) (s .links)) ≡ holdings P (view s)
-  unfolding holdings framesHeld view linksView
+  unfolding holdings framesHeld view
   held-holdings s =
       sym (ap₂ (λ x y. x ++ y) (frame-held (s .method) (s .labels) (s .depth) (s .n)) (ap₂ (λ x y. x ++ y) (saved-held (s .labels) (s .saved) (s .depth)) (links-held (take (s .nlinks) (s .links)))) ∙ sym (append-assoc (frameHeld (s .labels) (s .depth) (s .n) (runsIn owners homes (s .method))) _ _))
 

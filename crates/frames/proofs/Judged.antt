@@ -3,10 +3,10 @@
 use Prim.Native.Nat.{ℕ, suc, _+_, _*_, _≤_, _<_}
 use native.Mathlib.Omega.{arith}
 use mathlib.Core.Path.{_≡_, refl, sym, ap, ap₂, _∙_, subst}
-use mathlib.Core.Bool.{Bool, true, false, _&&_, cond}
-use mathlib.Core.List.{List}
+use mathlib.Core.Bool.{Bool, true, false, _&&_, cond, and-assoc}
+use mathlib.Core.List.{List, [], _∷_}
 use lib.Dec.{eqb, leb, ltb, lit<, eqb·suc-zero}
-use lib.ListN.{length, getD, drop, take}
+use lib.ListN.{length, drop}
 use lib.Seq.{slice}
 use borrow.Author.Tests.{eq-eqb, ne-eqb, eqb-true, leb-true, ltb-true}
 use Rattle.meaning.specs.Lists.{all}
@@ -14,9 +14,10 @@ use Rattle.meaning.specs.Text.{byte}
 use Rattle.meaning.specs.Kinds.{rowOf, lengthOf, fits}
 use Rattle.meaning.specs.Tables.{Package, fieldAt, methodAt}
 use Rattle.meaning.specs.Reading.{Took, refuses, need, Reader, reader, header, withPair, withClass, withField, withMethod, withEffect, pairOf, classOf, fieldOf, methodOf, effectOf, isDomain, isClass, isType, isMethod, isField, isMethodOf, isNamed, isSlot, isResult, takeHeader, takePair, takeClass, takeField, takeMethod, takeEffect}
+use Rattle.text.specs.Fits.{fitsFrame}
 use Rattle.text.specs.Scan.{firstBytes, packFrame}
 use Rattle.frames.specs.declared.effects.Declared.{Declared}
-use Rattle.frames.specs.Judging.{ask, at, below, judgeHeader, judgePair, judgeClass, judgeField, slotIn, judgeMethod, namedIn, judgeEffect}
+use Rattle.frames.specs.Judging.{ask, at, below, judgeBy, countedIn, judgeHeader, judgePair, judgeClass, judgeField, slotIn, resultIn, judgeMethod, namedIn, judgeEffect}
 use Rattle.text.proofs.Packed.{first-at, first-take}
 use Rattle.text.proofs.Fitting.{fits-packed}
 
@@ -80,6 +81,35 @@ named P op x d h =
     method : (k : ℕ) → isMethodOf P x k ≡ (ltb x (length (P .methods)) && eqb (d .method) k)
     method k = static-named x (length (P .methods)) k (d .method) ((methodAt P x) .static) (h .method)
 
+-- ---- the tests of a row, joined
+
+-- each of them refused with k
+needs : List Bool → ℕ → Took Reader → Took Reader
+needs [] k t = t
+needs (b ∷ bs) k t = need b k (needs bs k t)
+
+conj : Bool → List Bool → Bool
+conj a [] = a
+conj a (b ∷ bs) = conj (a && b) bs
+
+joined : (k : ℕ) (t : Took Reader) (a : Bool) (bs : List Bool) → need a k (needs bs k t) ≡ need (conj a bs) k t
+unfolding needs conj
+joined k t a [] = refl
+joined k t a (b ∷ bs) = two a ∙ joined k t (a && b) bs
+  where
+    two : (a : Bool) → need a k (need b k (needs bs k t)) ≡ need (a && b) k (needs bs k t)
+    two true = refl
+    two false = refl
+
+-- the row of a kind: 8, 6, and the numbers
+module _ (f : List ℕ) (t : Took Reader) (room a : Bool) (bs : List Bool) (d : Bool) where
+  rows : (fits f ≡ true → conj a bs ≡ d) → need room 8 (need (fits f) 6 (need a 7 (needs bs 7 t))) ≡ judged (judgeBy room (fitsFrame (packFrame f)) d) t
+  unfolding judgeBy
+  rows h =
+      asked _ _ _ _ refl (λ _.
+      asked _ _ _ _ (sym (fits-packed f)) (λ e.
+      joined 7 t a bs ∙ asked _ _ _ _ (h e) (λ _. passed t)))
+
 -- ---- the kinds
 
 module _ (f : List ℕ) where
@@ -92,67 +122,61 @@ module _ (f : List ℕ) where
   unfolding fits
   sized k e h = subst (λ (b : ℕ). length f ≡ lengthOf (rowOf b) f) e (eqb-true (length f) (lengthOf (rowOf (byte f 0)) f) h)
 
-  -- the counted bytes, where the length is right and there are not too many
-  counted : (test : ℕ → Bool) (d i : ℕ) → length f ≡ d + byte f i → d + byte f i ≤ 16 → i < 16 → all test (drop d f) ≡ all test (slice d (d + at (packFrame f) i) (firstBytes 16 f))
-  counted test d i e l h =
-      rw (first-at 16 f i h, ← e) (ap (λ (t : List ℕ). all test (drop d t)) (sym (first-take 16 f (omega arith))))
+  -- the counted bytes, where the length is right
+  counted : (i most n : ℕ) → i + most < 16 → length f ≡ i + 1 + byte f i → (leb (byte f i) most && all (below n) (drop (i + 1) f)) ≡ countedIn (packFrame f) i most n
+  unfolding countedIn
+  counted i most n l e = rw (first-at 16 f i (omega arith)) (on (leb (byte f i) most) (leb-true (byte f i) most))
+    where
+      on : (b : Bool) → (b ≡ true → byte f i ≤ most) → (b && all (below n) (drop (i + 1) f)) ≡ (b && all (below n) (slice (i + 1) (i + 1 + byte f i) (firstBytes 16 f)))
+      on true h = rw (← e) (ap (λ (t : List ℕ). all (below n) (drop (i + 1) t)) (sym (first-take 16 f (omega (arith, h refl)))))
+      on false h = refl
+
+  shape-kept : (((eqb (length f) 3 && eqb (byte f 0) 1) && leb 1 (byte f 2)) && leb (byte f 2) 32) ≡ (((eqb (length f) 3 && eqb (at (packFrame f) 0) 1) && leb 1 (at (packFrame f) 2)) && leb (at (packFrame f) 2) 32)
+  shape-kept = simp (first-at 16 f 0 (lit< tt), first-at 16 f 2 (lit< tt))
+
+  pub header-judged : takeHeader f ≡ judged (judgeHeader (packFrame f)) (reader (header (byte f 1) (byte f 2)) 1)
+  unfolding takeHeader judgeHeader needs conj
+  header-judged =
+      joined 3 _ (eqb (length f) 3) (eqb (byte f 0) 1 ∷ leb 1 (byte f 2) ∷ leb (byte f 2) 32 ∷ [])
+      ∙ asked _ _ _ _ shape-kept (λ _. asked _ _ _ _ (kept (λ (x : ℕ). eqb x 2) 1 (lit< tt)) (λ _. passed _))
 
   slot-kept : isSlot (byte f 3) (byte f 4 * 256 + byte f 5) ≡ isSlot (at (packFrame f) 3) (slotIn (packFrame f))
   slot-kept = simp (first-at 16 f 3 (lit< tt), first-at 16 f 4 (lit< tt), first-at 16 f 5 (lit< tt))
 
-  pub header-judged : takeHeader f ≡ judged (judgeHeader (packFrame f)) (reader (header (byte f 1) (byte f 2)) 1)
-  unfolding takeHeader judgeHeader
-  header-judged =
-      asked _ _ _ _ refl (λ _.
-      asked _ _ _ _ (kept (λ (x : ℕ). eqb x 1) 0 (lit< tt)) (λ _.
-      asked _ _ _ _ (kept (leb 1) 2 (lit< tt)) (λ _.
-      asked _ _ _ _ (kept (λ (x : ℕ). leb x 32) 2 (lit< tt)) (λ _.
-      asked _ _ _ _ (kept (λ (x : ℕ). eqb x 2) 1 (lit< tt)) (λ _. passed _)))))
-
   module _ (P : Package) where
     pub pair-judged : takePair P f ≡ judged (judgePair (P .domains) (length (P .pairs)) (packFrame f)) (reader (withPair P (pairOf f)) 2)
-    unfolding takePair judgePair isDomain
+    unfolding takePair judgePair isDomain needs conj
     pair-judged =
-        asked _ _ _ _ refl (λ _.
-        asked _ _ _ _ (sym (fits-packed f)) (λ _.
-        asked _ _ _ _ (kept (below (P .domains)) 1 (lit< tt)) (λ _.
-        asked _ _ _ _ (kept (below (P .domains)) 2 (lit< tt)) (λ _. passed _))))
+        rows f _ (ltb (length (P .pairs)) 128) (below (P .domains) (byte f 1)) (below (P .domains) (byte f 2) ∷ []) _ (λ _.
+        ap₂ _&&_ (kept (below (P .domains)) 1 (lit< tt)) (kept (below (P .domains)) 2 (lit< tt)))
 
     pub class-judged : byte f 0 ≡ 3 → takeClass P f ≡ judged (judgeClass (P .domains) (length (P .classes)) (packFrame f)) (reader (withClass P (classOf f)) 3)
-    unfolding takeClass judgeClass isDomain isClass lengthOf rowOf
+    unfolding takeClass judgeClass isDomain isClass needs conj lengthOf rowOf
     class-judged e =
-        asked _ _ _ _ refl (λ _.
-        asked _ _ _ _ (sym (fits-packed f)) (λ h.
-        asked _ _ _ _ (kept (below (P .domains)) 1 (lit< tt)) (λ _.
-        asked _ _ _ _ (kept (λ (x : ℕ). leb x 4) 2 (lit< tt)) (λ k.
-        asked _ _ _ _ (counted (below (length (P .classes))) 3 2 (sized 3 e h) (omega (arith, leb-true (byte f 2) 4 k)) (lit< tt)) (λ _. passed _)))))
+        rows f _ (ltb (length (P .classes)) 127) (below (P .domains) (byte f 1)) (leb (byte f 2) 4 ∷ all (below (length (P .classes))) (drop 3 f) ∷ []) _ (λ h.
+        and-assoc (below (P .domains) (byte f 1)) (leb (byte f 2) 4) (all (below (length (P .classes))) (drop 3 f))
+        ∙ ap₂ _&&_ (kept (below (P .domains)) 1 (lit< tt)) (counted 2 4 (length (P .classes)) (lit< tt) (sized 3 e h)))
 
     pub field-judged : takeField P f ≡ judged (judgeField (length (P .classes)) (length (P .fields)) (packFrame f)) (reader (withField P (fieldOf f)) 4)
-    unfolding takeField judgeField isClass isType
+    unfolding takeField judgeField isClass isType needs conj
     field-judged =
-        asked _ _ _ _ refl (λ _.
-        asked _ _ _ _ (sym (fits-packed f)) (λ _.
-        asked _ _ _ _ (kept (below (length (P .classes))) 1 (lit< tt)) (λ _.
-        asked _ _ _ _ (kept (below (length (P .classes))) 2 (lit< tt)) (λ _.
-        asked _ _ _ _ (kept (λ (x : ℕ). leb x 1) 3 (lit< tt)) (λ _. passed _)))))
+        rows f _ (ltb (length (P .fields)) 256) (below (length (P .classes)) (byte f 1)) (below (length (P .classes)) (byte f 2) ∷ leb (byte f 3) 1 ∷ []) _ (λ _.
+        ap₂ _&&_ (ap₂ _&&_ (kept (below (length (P .classes))) 1 (lit< tt)) (kept (below (length (P .classes))) 2 (lit< tt))) (kept (λ (x : ℕ). leb x 1) 3 (lit< tt)))
 
     pub method-judged : byte f 0 ≡ 5 → takeMethod P f ≡ judged (judgeMethod (P .domains) (length (P .classes)) (length (P .methods)) (packFrame f)) (reader (withMethod P (methodOf f)) 5)
-    unfolding takeMethod judgeMethod isDomain isClass isType isResult lengthOf rowOf
+    unfolding takeMethod judgeMethod isDomain isClass isType isResult needs conj lengthOf rowOf
     method-judged e =
-        asked _ _ _ _ refl (λ _.
-        asked _ _ _ _ (sym (fits-packed f)) (λ h.
-        asked _ _ _ _ (kept (below (length (P .classes))) 1 (lit< tt)) (λ _.
-        asked _ _ _ _ (kept (below (P .domains)) 2 (lit< tt)) (λ _.
-        asked _ _ _ _ (kept (λ (x : ℕ). leb x 1) 3 (lit< tt)) (λ _.
-        asked _ _ _ _ slot-kept (λ _.
-        asked _ _ _ _ (kept (λ (x : ℕ). isResult P x) 6 (lit< tt)) (λ _.
-        asked _ _ _ _ (kept (λ (x : ℕ). leb x 6) 7 (lit< tt)) (λ k.
-        asked _ _ _ _ (counted (below (length (P .classes))) 8 7 (sized 5 e h) (omega (arith, leb-true (byte f 7) 6 k)) (lit< tt)) (λ _. passed _)))))))))
+        let n = length (P .classes) in
+        rows f _ (ltb (length (P .methods)) 256) (below n (byte f 1)) (below (P .domains) (byte f 2) ∷ leb (byte f 3) 1 ∷ isSlot (byte f 3) (byte f 4 * 256 + byte f 5) ∷ resultIn n (byte f 6) ∷ leb (byte f 7) 6 ∷ all (below n) (drop 8 f) ∷ []) _ (λ h.
+        and-assoc (below n (byte f 1) && below (P .domains) (byte f 2) && leb (byte f 3) 1 && isSlot (byte f 3) (byte f 4 * 256 + byte f 5) && resultIn n (byte f 6)) (leb (byte f 7) 6) (all (below n) (drop 8 f))
+        ∙ ap₂ _&&_
+        (ap₂ _&&_ (ap₂ _&&_ (ap₂ _&&_ (ap₂ _&&_ (kept (below n) 1 (lit< tt)) (kept (below (P .domains)) 2 (lit< tt))) (kept (λ (x : ℕ). leb x 1) 3 (lit< tt))) slot-kept) (kept (resultIn n) 6 (lit< tt)))
+        (counted 7 6 n (lit< tt) (sized 5 e h)))
 
     pub effect-judged : (d : Declared) → Declares P (byte f 3) d → takeEffect P f ≡ judged (judgeEffect d (length (P .effects)) (packFrame f)) (reader (withEffect P (effectOf f)) 6)
-    unfolding takeEffect judgeEffect isMethod
+    unfolding takeEffect judgeEffect isMethod needs conj
     effect-judged d h =
-        asked _ _ _ _ refl (λ _.
-        asked _ _ _ _ (sym (fits-packed f)) (λ _.
-        asked _ _ _ _ (ap (λ (n : ℕ). ltb (byte f 1) n) (sym (h .methods)) ∙ kept (below (d .methods)) 1 (lit< tt)) (λ _.
-        asked _ _ _ _ (named P (byte f 2) (byte f 3) d h ∙ ap₂ (namedIn d) (sym (first-at 16 f 2 (lit< tt))) (sym (first-at 16 f 3 (lit< tt)))) (λ _. passed _))))
+        rows f _ (ltb (length (P .effects)) 1024) (below (length (P .methods)) (byte f 1)) (isNamed P (byte f 2) (byte f 3) ∷ []) _ (λ _.
+        ap₂ _&&_
+        (ap (λ (n : ℕ). below n (byte f 1)) (sym (h .methods)) ∙ kept (below (d .methods)) 1 (lit< tt))
+        (named P (byte f 2) (byte f 3) d h ∙ ap₂ (namedIn d) (sym (first-at 16 f 2 (lit< tt))) (sym (first-at 16 f 3 (lit< tt)))))

@@ -1,16 +1,13 @@
 -- The first bytes of a list: with zeros behind them, and from a place on.
 -- Assumes nothing.
-use Prim.Native.Nat.{ℕ, zero, suc, _+_, _-_, _≤_, _<_}
+use Prim.Native.Nat.{ℕ, zero, suc, _-_, _≤_}
 use native.Mathlib.Omega.{arith}
-use mathlib.Core.Path.{_≡_, refl, sym, ap, _∙_}
-use mathlib.Core.List.{List, [], _∷_, _++_}
-use lib.ListN.{length, getD, take, drop, replicate}
-use Rattle.meaning.specs.Text.{byte}
-use Rattle.meaning.specs.Kinds.{fits}
+use mathlib.Core.Path.{_≡_, refl, ap, _∙_}
+use mathlib.Core.List.{List, [], _∷_}
+use lib.ListN.{length, getD, drop, replicate}
 use Rattle.tables.specs.Pack.{pad}
 use Rattle.tables.proofs.Pack.{pad-none}
-use Rattle.text.specs.Scan.{firstBytes, packFrame}
-use Rattle.text.specs.Fits.{fitsFrame}
+use Rattle.text.specs.Scan.{firstBytes}
 
 -- bytes with zeros behind them
 pub first-pad : (n : ℕ) (f : List ℕ) → length f ≤ n → pad n 0 f ≡ firstBytes n f

@@ -1,7 +1,6 @@
 -- The empty tables; and the element of a table that a frame stands for, from the frame as it is scanned.
 -- Assumes nothing.
-use Prim.Native.Nat.{ℕ}
-use mathlib.Core.List.{List, [], _∷_}
+use mathlib.Core.List.{[], _∷_}
 use lib.ListN.{replicate}
 use Rattle.text.specs.declared.Frame.{Frame}
 use Rattle.tables.specs.declared.Pair.{Pair}

@@ -1,5 +1,5 @@
 // 03 dd k s..
-use crate::bytes;
+use crate::tests;
 use tables::Class;
 use tables::Classes;
 use text::Frame;
@@ -25,23 +25,8 @@ pub fn no_classes() -> Classes
 pub fn judge_class(nd: usize, n: usize, f: Frame) -> u8
     ensures { λ r. ⌜ r ≡ judgeClass nd n f ⌝ }
 {
-    if 127 <= n {
-        return 8;
-    }
-    if !text::fits(f) {
-        return 6;
-    }
-    if nd <= bytes::wide(f.b[1]) {
-        return 7;
-    }
-    let k = bytes::wide(f.b[2]);
-    if 4 < k {
-        return 7;
-    }
-    if !bytes::all_below(f, 3, 3 + k, n) {
-        return 7;
-    }
-    0
+    let declared = tests::below(f.b[1], nd) & tests::counted(f, 2, 4, n);
+    tests::judge(n < 127, text::fits(f), declared)
 }
 
 pub fn class_of(f: Frame) -> Class

@@ -1,11 +1,9 @@
 // 06 mm op xx.
-use crate::bytes;
+use crate::tests;
 use tables::Effect;
 use tables::Effects;
 use text::Frame;
 ghost use mathlib.Core.Path.{_≡_};
-ghost use mathlib.Core.Bool.{_&&_};
-ghost use lib.Dec.{ltb, eqb};
 ghost use Rattle.frames.specs.Judging.{judgeEffect, namedIn};
 ghost use Rattle.frames.specs.Elements.{noEffects, effectIn};
 
@@ -32,33 +30,23 @@ pub fn no_effects() -> Effects
     }
 }
 
-// x is one of n, and has this static byte.
-fn is_static(x: usize, n: usize, stat: u8, want: u8) -> bool
-    ensures { λ r. ⌜ r ≡ (ltb x n && eqb stat want) ⌝ }
-{
-    if n <= x {
-        return false;
-    }
-    stat == want
-}
-
-fn is_named(d: Declared, op: u8, x: usize) -> bool
+fn is_named(d: Declared, op: u8, x: u8) -> bool
     ensures { λ r. ⌜ r ≡ namedIn d op x ⌝ }
 {
     if op <= 1 {
-        return x < d.classes;
+        return tests::below(x, d.classes);
     }
     if op <= 3 {
-        return is_static(x, d.fields, d.field, 1);
+        return tests::below(x, d.fields) & (d.field == 1);
     }
     if op <= 5 {
-        return is_static(x, d.fields, d.field, 0);
+        return tests::below(x, d.fields) & (d.field == 0);
     }
     if op == 6 {
-        return is_static(x, d.methods, d.method, 1);
+        return tests::below(x, d.methods) & (d.method == 1);
     }
     if op == 7 {
-        return is_static(x, d.methods, d.method, 0);
+        return tests::below(x, d.methods) & (d.method == 0);
     }
     false
 }
@@ -67,19 +55,8 @@ fn is_named(d: Declared, op: u8, x: usize) -> bool
 pub fn judge_effect(d: Declared, n: usize, f: Frame) -> u8
     ensures { λ r. ⌜ r ≡ judgeEffect d n f ⌝ }
 {
-    if 1024 <= n {
-        return 8;
-    }
-    if !text::fits(f) {
-        return 6;
-    }
-    if d.methods <= bytes::wide(f.b[1]) {
-        return 7;
-    }
-    if !is_named(d, f.b[2], bytes::wide(f.b[3])) {
-        return 7;
-    }
-    0
+    let declared = tests::below(f.b[1], d.methods) & is_named(d, f.b[2], f.b[3]);
+    tests::judge(n < 1024, text::fits(f), declared)
 }
 
 pub fn effect_of(f: Frame) -> Effect

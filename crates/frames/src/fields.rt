@@ -1,5 +1,5 @@
 // 04 cc tt ss.
-use crate::bytes;
+use crate::tests;
 use tables::Field;
 use tables::Fields;
 use text::Frame;
@@ -25,22 +25,8 @@ pub fn no_fields() -> Fields
 pub fn judge_field(nc: usize, n: usize, f: Frame) -> u8
     ensures { λ r. ⌜ r ≡ judgeField nc n f ⌝ }
 {
-    if 256 <= n {
-        return 8;
-    }
-    if !text::fits(f) {
-        return 6;
-    }
-    if nc <= bytes::wide(f.b[1]) {
-        return 7;
-    }
-    if nc <= bytes::wide(f.b[2]) {
-        return 7;
-    }
-    if 1 < f.b[3] {
-        return 7;
-    }
-    0
+    let declared = tests::below(f.b[1], nc) & tests::below(f.b[2], nc) & (f.b[3] <= 1);
+    tests::judge(n < 256, text::fits(f), declared)
 }
 
 pub fn field_of(f: Frame) -> Field

@@ -6,18 +6,9 @@ ghost use Rattle.frames.specs.Judging.{judgeHeader};
 pub fn judge_header(f: Frame) -> u8
     ensures { λ r. ⌜ r ≡ judgeHeader f ⌝ }
 {
-    let n = f.n;
-    if n != 3 {
-        return 3;
-    }
-    if f.b[0] != 1 {
-        return 3;
-    }
     let nd = f.b[2];
-    if nd < 1 {
-        return 3;
-    }
-    if 32 < nd {
+    let shape = (f.n == 3) & (f.b[0] == 1) & (1 <= nd) & (nd <= 32);
+    if !shape {
         return 3;
     }
     if f.b[1] != 2 {

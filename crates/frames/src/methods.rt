@@ -1,5 +1,5 @@
 // 05 cc ll ss hh hh rr k p..
-use crate::bytes;
+use crate::tests;
 use tables::Method;
 use tables::Methods;
 use text::Frame;
@@ -45,46 +45,21 @@ fn is_slot(stat: u8, slot: u16) -> bool
 fn is_result(nc: usize, x: u8) -> bool
     ensures { λ r. ⌜ r ≡ resultIn nc x ⌝ }
 {
-    if x == 255 {
-        return true;
-    }
-    bytes::wide(x) < nc
+    (x == 255) | tests::below(x, nc)
 }
 
 // With nd domains, nc classes, and n methods before it.
 pub fn judge_method(nd: usize, nc: usize, n: usize, f: Frame) -> u8
     ensures { λ r. ⌜ r ≡ judgeMethod nd nc n f ⌝ }
 {
-    if 256 <= n {
-        return 8;
-    }
-    if !text::fits(f) {
-        return 6;
-    }
-    if nc <= bytes::wide(f.b[1]) {
-        return 7;
-    }
-    if nd <= bytes::wide(f.b[2]) {
-        return 7;
-    }
     let stat = f.b[3];
-    if 1 < stat {
-        return 7;
-    }
-    if !is_slot(stat, slot_of(f)) {
-        return 7;
-    }
-    if !is_result(nc, f.b[6]) {
-        return 7;
-    }
-    let k = bytes::wide(f.b[7]);
-    if 6 < k {
-        return 7;
-    }
-    if !bytes::all_below(f, 8, 8 + k, nc) {
-        return 7;
-    }
-    0
+    let declared = tests::below(f.b[1], nc)
+        & tests::below(f.b[2], nd)
+        & (stat <= 1)
+        & is_slot(stat, slot_of(f))
+        & is_result(nc, f.b[6])
+        & tests::counted(f, 7, 6, nc);
+    tests::judge(n < 256, text::fits(f), declared)
 }
 
 pub fn method_of(f: Frame) -> Method

@@ -1,5 +1,5 @@
 // 02 EE DD: E ► D.
-use crate::bytes;
+use crate::tests;
 use tables::Pair;
 use tables::Pairs;
 use text::Frame;
@@ -21,19 +21,8 @@ pub fn no_pairs() -> Pairs
 pub fn judge_pair(nd: usize, n: usize, f: Frame) -> u8
     ensures { λ r. ⌜ r ≡ judgePair nd n f ⌝ }
 {
-    if 128 <= n {
-        return 8;
-    }
-    if !text::fits(f) {
-        return 6;
-    }
-    if nd <= bytes::wide(f.b[1]) {
-        return 7;
-    }
-    if nd <= bytes::wide(f.b[2]) {
-        return 7;
-    }
-    0
+    let declared = tests::below(f.b[1], nd) & tests::below(f.b[2], nd);
+    tests::judge(n < 128, text::fits(f), declared)
 }
 
 pub fn pair_of(f: Frame) -> Pair

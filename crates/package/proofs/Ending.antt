@@ -2,25 +2,25 @@
 -- Assumes nothing.
 use Prim.Native.Nat.{ℕ, _+_, _≤_, _<_}
 use native.Mathlib.Omega.{arith}
-use mathlib.Core.Path.{_≡_, refl, sym, ap, _∙_}
+use mathlib.Core.Path.{_≡_, refl, _∙_}
 use mathlib.Core.Bool.{Bool, true, false, cond}
 use mathlib.Core.Option.{Option, none, some}
 use mathlib.Core.List.{List}
-use lib.Dec.{eqb, leb, T}
+use lib.Dec.{leb}
 use lib.ListN.{length}
-use borrow.Author.Tests.{eq-eqb, ne-eqb, leb-true, leb-false}
+use borrow.Author.Tests.{ne-eqb, leb-true, leb-false}
 use Rattle.meaning.specs.Text.{frameAt, behind, byte}
 use Rattle.meaning.specs.Kinds.{rowOf, fits, follows}
 use Rattle.meaning.specs.Tables.{Package}
-use Rattle.meaning.specs.Reading.{need, reader, refuses, takeEnd, takeLater, takeFrame, readEnd, isRead}
+use Rattle.meaning.specs.Reading.{need, reader, refuses, takeEnd, takeLater, takeFrame}
 use Rattle.meaning.proofs.Order.{five-first}
 use Rattle.meaning.proofs.Reading.{framed}
 use Rattle.text.specs.declared.Cut.{Cut}
 use Rattle.text.proofs.Cuts.{Taken}
 use Rattle.package.specs.declared.line.Cursor.{Cursor}
-use Rattle.package.specs.Sections.{Within, inSection, refusal, onward, kindAt, ending, afterEnd, behindEnd, Ended}
+use Rattle.package.specs.Sections.{Within, inSection, movedTo, refusal, onward, kindAt, ending, afterEnd, behindEnd, Ended}
 use Rattle.package.proofs.Order.{not-kind, none-follows}
-use Rattle.package.proofs.Turns.{refusedAt, movedTo, onward-refused, turn-end, turn-nine, turn-bad, turn-refused, turn-taken}
+use Rattle.package.proofs.Turns.{refusedAt, turn-end, turn-nine, turn-bad, turn-refused, turn-taken}
 
 -- only 07 follows the last section, and nothing follows 07
 module _ (P : Package) (f : List ℕ) where

@@ -6,15 +6,14 @@ use mathlib.Core.Path.{_≡_, refl, sym, ap, _∙_}
 use mathlib.Core.Bool.{Bool, true, false, cond}
 use mathlib.Core.Option.{Option, none, some}
 use mathlib.Core.List.{List, [], _∷_}
-use lib.Dec.{T, eqb, eqb→eq, leb}
+use lib.Dec.{eqb, eqb→eq, leb}
 use lib.ListN.{length}
 use borrow.Author.Tests.{eqb-false}
 use Rattle.meaning.specs.Text.{Line, linesOf, frameOf, byte}
 use Rattle.meaning.specs.Kinds.{rowOf, fits, follows}
 use Rattle.meaning.specs.Tables.{Package, fieldAt, methodAt}
-use Rattle.meaning.specs.Reading.{Answer, answer, Took, takes, refuses, need, Reader, takeEnd, takeLater, takeFrame, takeIf, takeLine, isRead, isRefused, readNext, readLines, noReader, readText}
+use Rattle.meaning.specs.Reading.{answer, Took, takes, refuses, need, Reader, takeEnd, takeLater, takeFrame, takeIf, takeLine, isRead, isRefused, readNext, readLines, noReader, readText}
 use Rattle.meaning.specs.Reading as M
-use Rattle.meaning.specs.Good.{Good}
 use Rattle.meaning.proofs.Places.{UpTo, read-up-to}
 use Rattle.meaning.proofs.ReadGood.{read-good}
 use Rattle.meaning.proofs.ReadLists.{cond-elim}

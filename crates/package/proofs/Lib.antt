@@ -3,6 +3,7 @@ pub mod Turns
 pub mod Loops
 pub mod Stores
 pub mod Steps
+pub mod Known
 pub mod Order
 pub mod Starting
 pub mod Ending

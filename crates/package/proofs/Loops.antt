@@ -1,23 +1,19 @@
 -- A section's loop: where it begins, a line more, a line that is refused, and the line that ends it.
 -- Assumes nothing.
-use Prim.Native.Nat.{ℕ, suc, _+_, _≤_, _<_}
+use Prim.Native.Nat.{ℕ}
 use native.Mathlib.Omega.{arith}
-use mathlib.Core.Path.{_≡_, refl, sym, ap, _∙_}
-use mathlib.Core.Bool.{true, false, cond}
-use mathlib.Core.Option.{Option, none, some}
+use mathlib.Core.Path.{_≡_, refl, sym, _∙_}
+use mathlib.Core.Option.{none}
 use mathlib.Core.List.{List, [], _∷_, _++_}
-use lib.Dec.{eqb}
-use lib.ListN.{length}
 use borrow.Author.Tests.{ne-eqb}
-use Rattle.meaning.specs.Text.{behind}
 use Rattle.meaning.specs.Tables.{Package}
-use Rattle.meaning.specs.Reading.{Took, takes, refuses, reader, takeFrame}
+use Rattle.meaning.specs.Reading.{reader, takeFrame}
 use Rattle.meaning.proofs.Reading.{framed}
 use Rattle.text.specs.declared.Cut.{Cut}
 use Rattle.frames.proofs.Judged.{judged, judged-taken, judged-refused}
 use Rattle.package.specs.declared.line.Cursor.{Cursor}
-use Rattle.package.specs.Sections.{Within, inSection, onward, kindAt, Found, Going, Section}
-use Rattle.package.proofs.Turns.{refusedAt, movedTo, onward-refused, turn-refused, turn-taken}
+use Rattle.package.specs.Sections.{Within, inSection, movedTo, kindAt, Found, Going, Section}
+use Rattle.package.proofs.Turns.{refusedAt, onward-refused, turn-refused, turn-taken}
 
 -- behind a line
 pub moved-within : {s : List ℕ} {c : Cursor} {k : ℕ} {r : Cut} → Within s c → Found s c k r → Within s (movedTo c (r .next))

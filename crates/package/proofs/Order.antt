@@ -4,27 +4,26 @@
 use Prim.Native.Nat.{ℕ, suc, _≤_, _<_}
 use native.Mathlib.Nat.{eq-or-lt-of-le}
 use native.Mathlib.Omega.{arith}
-use mathlib.Core.Path.{_≡_, refl, sym, ap, _∙_}
+use mathlib.Core.Path.{_≡_, refl, sym, _∙_}
 use mathlib.Core.Logic.{_⊎_, inl, inr}
 use mathlib.Core.Bool.{Bool, true, false, cond}
 use mathlib.Core.Option.{Option, none, some, Option·none-ne-some}
 use mathlib.Core.List.{List}
-use lib.Dec.{T, eqb, leb, eqb→eq, leb→le, le→leb}
+use lib.Dec.{eqb, leb, eqb→eq, leb→le, le→leb}
 use lib.ListN.{length}
 use borrow.Author.Tests.{eq-eqb, ne-eqb, eqb-true, eqb-false, leb-true, leb-false, le-leb}
-use Rattle.meaning.specs.Lists.{In, all}
+use Rattle.meaning.specs.Lists.{all}
 use Rattle.meaning.specs.Text.{frameAt, byte}
-use Rattle.meaning.specs.Kinds.{kinds, rowOf, follows}
+use Rattle.meaning.specs.Kinds.{rowOf, follows}
 use Rattle.meaning.specs.Kinds as M
 use Rattle.meaning.specs.Tables.{Package}
-use Rattle.meaning.specs.Reading.{refuses, takeLater, takeFrame}
+use Rattle.meaning.specs.Reading.{takeLater, takeFrame}
 use Rattle.meaning.proofs.Bools.{Decides, decides-as, decides-and, decides-lt, decides-same, fails-false}
 use Rattle.meaning.proofs.Lists.{all-sound}
-use Rattle.meaning.proofs.Order.{five-first}
 use Rattle.text.proofs.Rows.{Row, other, listed, row-of}
 use Rattle.package.specs.declared.line.Cursor.{Cursor}
 use Rattle.package.specs.Sections.{inSection, onward, kindAt}
-use Rattle.package.proofs.Turns.{refusedAt, onward-refused, turn, turn-nine, turn-bad}
+use Rattle.package.proofs.Turns.{onward-refused, turn, turn-nine, turn-bad}
 
 -- a kind of a package's text has its own number for its section
 own : (b : ℕ) → 0 < (rowOf b) .section → (rowOf b) .section ≤ 7 → b ≡ (rowOf b) .section

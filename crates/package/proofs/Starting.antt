@@ -1,23 +1,21 @@
 -- Line 1: refused, or taken as the header.
 -- Assumes nothing.
-use Prim.Native.Nat.{ℕ, _≤_, _<_}
+use Prim.Native.Nat.{ℕ}
 use native.Mathlib.Omega.{arith}
-use mathlib.Core.Path.{_≡_, refl, sym, ap, _∙_}
+use mathlib.Core.Path.{_≡_, refl, sym, _∙_}
 use mathlib.Core.Option.{none}
 use mathlib.Core.List.{List}
 use lib.Dec.{lit<}
 use lib.ListN.{length}
 use Rattle.meaning.specs.Text.{linesOf, frameAt, byte}
-use Rattle.meaning.specs.Reading.{reader, header, takeFrame, takeHeader, readLines, noReader}
+use Rattle.meaning.specs.Reading.{reader, header, takeFrame, readLines, noReader}
 use Rattle.meaning.proofs.Reading.{framed}
-use Rattle.text.specs.declared.Frame.{Frame}
 use Rattle.text.specs.declared.Cut.{Cut}
 use Rattle.text.proofs.Cuts.{Taken}
 use Rattle.frames.specs.Judging.{at, judgeHeader}
 use Rattle.frames.proofs.Judged.{judged, judged-taken, judged-refused, header-judged}
 use Rattle.package.specs.declared.line.Cursor.{Cursor}
-use Rattle.package.specs.declared.header.Header.{Header}
-use Rattle.package.specs.Sections.{Within, inSection, refusal, onward, noHeader, HeaderRead}
+use Rattle.package.specs.Sections.{inSection, refusal, onward, noHeader, HeaderRead}
 use Rattle.package.proofs.Looks.{cut-byte}
 use Rattle.package.proofs.Turns.{refusedAt, onward-refused, turn-nine, turn-bad, turn-refused, turn-taken}
 

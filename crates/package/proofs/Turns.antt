@@ -1,28 +1,21 @@
 -- A reader's turn at a cursor: on to the next line, or a refusal there.
 -- Assumes nothing.
-use Prim.Native.Nat.{ℕ, suc, _+_, _≤_, _<_}
+use Prim.Native.Nat.{ℕ, suc, _≤_, _<_}
 use native.Mathlib.Numerals.{add-one}
-use native.Mathlib.Omega.{arith}
-use mathlib.Core.Path.{_≡_, refl, sym, ap, _∙_}
-use mathlib.Core.Bool.{true, false, cond}
-use mathlib.Core.Option.{Option, none, some}
+use mathlib.Core.Path.{_≡_, ap, _∙_}
+use mathlib.Core.Option.{none, some}
 use mathlib.Core.List.{List}
-use lib.Dec.{eqb}
 use lib.ListN.{length, drop}
 use borrow.Author.Tests.{eq-eqb, ne-eqb}
 use Rattle.meaning.specs.Text.{linesOf, frameAt, behind}
-use Rattle.meaning.specs.Reading.{answer, Took, takes, refuses, Reader, takeFrame, Reading, isRead, isRefused, readNext, readLines, readEnd}
+use Rattle.meaning.specs.Reading.{Took, takes, refuses, Reader, takeFrame, readNext, readLines, readEnd}
 use Rattle.meaning.proofs.Reading.{read-end, read-bad, read-on}
 use Rattle.package.specs.declared.line.Cursor.{Cursor}
-use Rattle.package.specs.Sections.{Within, refusal, onward}
+use Rattle.package.specs.Sections.{movedTo, refusal, onward}
 
 -- the place of a cursor, refused with x
 abbrev pub refusedAt : Cursor → ℕ → Cursor
 refusedAt c x = record { at = c .at; line = c .line; no = x }
-
--- behind a line of frame f
-abbrev pub movedTo : Cursor → ℕ → Cursor
-movedTo c at = record { at = at; line = c .line + 1; no = 0 }
 
 module _ (s : List ℕ) (c : Cursor) (R : Reader) where
   pub onward-open : c .no ≡ 0 → onward s c R ≡ readLines R (c .line) (linesOf (drop (c .at) s))

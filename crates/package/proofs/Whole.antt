@@ -3,26 +3,23 @@
 use Prim.Native.Nat.{ℕ, _≤_, _<_}
 use native.Mathlib.Omega.{arith}
 use mathlib.Core.Path.{_≡_, refl, sym, ap, _∙_}
-use mathlib.Core.Bool.{true, false, cond}
-use mathlib.Core.List.{List, []}
-use lib.Dec.{eqb, leb, lit≤}
+use mathlib.Core.List.{List}
+use lib.Dec.{lit≤}
 use lib.ListN.{length}
 use borrow.Author.Tests.{le-leb, lt-leb, eq-eqb, ne-eqb}
 use Rattle.meaning.specs.Text.{linesOf}
 use Rattle.meaning.specs.Tables.{Package}
-use Rattle.meaning.specs.Reading.{answer, header, isRead, isRefused, readLines, noReader, readText}
+use Rattle.meaning.specs.Reading.{answer, header, isRefused, readLines, noReader, readText}
 use Rattle.tables.specs.declared.Pairs.{Pairs}
 use Rattle.tables.specs.declared.Classes.{Classes}
 use Rattle.tables.specs.declared.Fields.{Fields}
 use Rattle.tables.specs.declared.Methods.{Methods}
 use Rattle.tables.specs.declared.Effects.{Effects}
-use Rattle.tables.specs.declared.Tables.{Tables}
 use Rattle.tables.specs.Pack.{packPairs, packClasses, packFields, packMethods, packEffects, pack}
 use Rattle.package.specs.declared.line.Cursor.{Cursor}
 use Rattle.package.specs.declared.header.Header.{Header}
-use Rattle.package.specs.declared.Reading.{Reading}
-use Rattle.package.specs.Sections.{inSection, onward, HeaderRead, Section, withPairs, withClasses, withFields, withMethods, withEffects, HasDomains, HasClasses, HasBoth, HasDeclared, refusal, ending, Ended}
-use Rattle.package.specs.Answers.{refusedWith, readingOf}
+use Rattle.package.specs.Sections.{HeaderRead, Section, withPairs, withClasses, withFields, withMethods, withEffects, HasDomains, HasClasses, HasBoth, HasDeclared, refusal, ending, Ended}
+use Rattle.package.specs.Answers.{readingOf}
 use Rattle.package.proofs.Order.{advance}
 
 module _ (s : List ℕ) where

@@ -1,6 +1,6 @@
 -- What the sections of a text leave to each other: a cursor, and tables that read what stands behind it as the whole text is read.
 -- Assumes nothing.
-use Prim.Native.Nat.{ℕ, suc, _≤_}
+use Prim.Native.Nat.{ℕ, suc, _+_, _≤_}
 use mathlib.Core.Path.{_≡_}
 use mathlib.Core.Bool.{true, false, cond}
 use mathlib.Core.Option.{Option, none, some}
@@ -26,6 +26,10 @@ pub record Within (s : List ℕ) (c : Cursor) : Type 0 where
 -- the tables so far, in section k
 abbrev pub inSection : ℕ → Package → Reader
 inSection k P = record { tables = P; section = k }
+
+-- behind a line
+abbrev pub movedTo : Cursor → ℕ → Cursor
+movedTo c at = record { at = at; line = c .line + 1; no = 0 }
 
 -- the refusal at a cursor
 abbrev pub refusal : Cursor → Reading

@@ -50,11 +50,6 @@ pub(crate) fn read_effects(
         }
         x.at[n] = frames::effects::effect_of(f);
         x.n = n + 1;
-        let at = cut.next;
-        next = Cursor {
-            at,
-            line: next.line + 1,
-            no: 0,
-        };
+        next = line::moved(next, cut.next);
     }
 }

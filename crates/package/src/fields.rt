@@ -31,11 +31,6 @@ pub(crate) fn read_fields(s: &[u8], from: Cursor, nc: usize) -> FieldsRead
         }
         x.at[n] = frames::fields::field_of(f);
         x.n = n + 1;
-        let at = cut.next;
-        next = Cursor {
-            at,
-            line: next.line + 1,
-            no: 0,
-        };
+        next = line::moved(next, cut.next);
     }
 }

@@ -1,6 +1,6 @@
 // Reading a package text (01, "Package text"): from bytes to the tables, or to the first refusal of 1 to 9 with its line.
 // Kinds never fall from line to line, so each section of the text is read by a loop of its own, which holds its own table alone. A line
-// that is not of its kind ends it, and is left to the sections behind it.
+// that is not of its kind ends it, and is left to the sections behind it; behind a refusal they read nothing and hand it on.
 use tables::Tables;
 ghost use mathlib.Core.Path.{_≡_};
 ghost use Rattle.meaning.specs.Reading.{readText};

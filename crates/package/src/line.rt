@@ -4,7 +4,7 @@ use text::Frame;
 ghost use mathlib.Core.Path.{_≡_};
 ghost use Prim.Native.Nat.{_<_};
 ghost use mathlib.Core.Bool.{false};
-ghost use Rattle.package.specs.Sections.{Looked};
+ghost use Rattle.package.specs.Sections.{movedTo, Looked};
 
 // Where the next line begins, how many lines are read, and the number that refuses the next one, or 0.
 pub struct Cursor {
@@ -17,6 +17,18 @@ pub(crate) fn wide(x: u8) -> usize
     ensures { λ r. ⌜ (r ≡ x) × (r < 256) ⌝ }
 {
     x as usize
+}
+
+// Behind a line that ends before `at`.
+pub(crate) fn moved(c: Cursor, at: usize) -> Cursor
+    requires { ⌜ c .line < at ⌝ }
+    ensures { λ r. ⌜ r ≡ movedTo c at ⌝ }
+{
+    Cursor {
+        at,
+        line: c.line + 1,
+        no: 0,
+    }
 }
 
 fn no_line(at: usize) -> Cut

@@ -2,7 +2,7 @@
 -- Assumes nothing.
 use native.Mathlib.Numerals.{add-one}
 use native.Mathlib.Omega.{arith}
-use mathlib.Core.Path.{_≡_, _∙_}
+use mathlib.Core.Path.{_∙_}
 use Rattle.package.specs.Sections.{Within}
 use Rattle.package.proofs.Whole.{read-large, whole-refused, whole-read}
 use borrow.Author.Needs.{needs}

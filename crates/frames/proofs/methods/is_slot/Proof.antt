@@ -1,3 +1,5 @@
+-- `is_slot` goes by the static byte, as the definition does.
+-- Assumes nothing.
 use borrow.Author.Tests.{eq-eqb, ne-eqb}
 use Rattle.meaning.specs.Reading.{isSlot}
 use Rattle.frames.proofs.methods.is_slot.Statement.{statement}

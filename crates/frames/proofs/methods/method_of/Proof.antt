@@ -1,3 +1,5 @@
+-- `method_of` takes the bytes as they stand, and the slot that `slot_of` gives.
+-- Assumes nothing.
 use borrow.Author.Needs.{needs}
 use Rattle.frames.proofs.methods.method_of.Statement.{statement}
 use Rattle.frames.proofs.methods.method_of.Tie as tie

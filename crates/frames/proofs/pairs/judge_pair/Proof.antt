@@ -1,66 +1,40 @@
-use mathlib.Core.Path.{refl}
-use borrow.Author.Tests.{lt-ltb, le-ltb}
-use Rattle.frames.proofs.Tests.{passed, failed, declared, undeclared, skip, stop}
+-- `judge_pair` puts its tests together.
+-- Assumes nothing.
 use Rattle.frames.specs.Judging.{judgePair}
 use borrow.Author.Needs.{needs}
 use Rattle.frames.proofs.pairs.judge_pair.Statement.{statement}
 use Rattle.frames.proofs.pairs.judge_pair.Tie as tie
 
-returns : tie.Need-returns
-unfolding judgePair
-returns c = stop _ _ (le-ltb _ _ (c .if1 .taken))
+element-copy-out-below : tie.Need-element-copy-out-below
+element-copy-out-below c = search needs
+
+below-requires : tie.Need-below-requires
+below-requires c κs = search needs
+
+element-copy-out-below-2 : tie.Need-element-copy-out-below-2
+element-copy-out-below-2 c = search needs
+
+below-requires-2 : tie.Need-below-requires-2
+below-requires-2 c κs = search needs
 
 fits-requires : tie.Need-fits-requires
 fits-requires c κs = search needs
 
-returns-2 : tie.Need-returns-2
+judge-requires : tie.Need-judge-requires
+judge-requires c κs = search needs
+
+returns : tie.Need-returns
 unfolding judgePair
-returns-2 c = skip _ _ (lt-ltb _ _ (c .before .before .if1 .left))
-    (stop _ _ (failed (c .before .fits2 .ensures) (c .if2 .taken)))
-
-element-copy-out-wide : tie.Need-element-copy-out-wide
-element-copy-out-wide c = search needs
-
-wide-requires : tie.Need-wide-requires
-wide-requires c κs = search needs
-
-returns-3 : tie.Need-returns-3
-unfolding judgePair
-returns-3 c = skip _ _ (lt-ltb _ _ (c .before .before .before .before .before .if1 .left))
-    (skip _ _ (passed (c .before .before .before .before .fits2 .ensures) (c .before .before .before .if2 .left))
-    (stop _ _ (undeclared (c .before .wide .ensures) (c .if3 .taken))))
-
-element-copy-out-wide-2 : tie.Need-element-copy-out-wide-2
-element-copy-out-wide-2 c = search needs
-
-wide-requires-2 : tie.Need-wide-requires-2
-wide-requires-2 c κs = search needs
-
-returns-4 : tie.Need-returns-4
-unfolding judgePair
-returns-4 c = skip _ _ (lt-ltb _ _ (c .before .before .before .before .before .before .before .before .if1 .left))
-    (skip _ _ (passed (c .before .before .before .before .before .before .before .fits2 .ensures) (c .before .before .before .before .before .before .if2 .left))
-    (skip _ _ (declared (c .before .before .before .before .wide .ensures) (c .before .before .before .if3 .left))
-    (stop _ _ (undeclared (c .before .wide2 .ensures) (c .if4 .taken)))))
-
-returns-5 : tie.Need-returns-5
-unfolding judgePair
-returns-5 c = skip _ _ (lt-ltb _ _ (c .before .before .before .before .before .before .before .before .if1 .left))
-    (skip _ _ (passed (c .before .before .before .before .before .before .before .fits2 .ensures) (c .before .before .before .before .before .before .if2 .left))
-    (skip _ _ (declared (c .before .before .before .before .wide .ensures) (c .before .before .before .if3 .left))
-    (skip _ _ (declared (c .before .wide2 .ensures) (c .if4 .left)) refl)))
+returns c = cc
 
 pub judge-pair-spec : {M : Type 1} → statement M
 judge-pair-spec =
     tie.close
     (tie.spec
-    returns
+    element-copy-out-below
+    below-requires
+    element-copy-out-below-2
+    below-requires-2
     fits-requires
-    returns-2
-    element-copy-out-wide
-    wide-requires
-    returns-3
-    element-copy-out-wide-2
-    wide-requires-2
-    returns-4
-    returns-5)
+    judge-requires
+    returns)

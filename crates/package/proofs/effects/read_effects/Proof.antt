@@ -1,8 +1,8 @@
--- `read_effects` reads its section: the text is read on from the cursor as it was from the section's start, with the list so far in the table.
+-- `read_effects` reads its section: with the list so far in the table, the text reads on from the cursor as it does from the section's start.
 -- Assumes nothing.
-use Prim.Native.Nat.{ℕ, _-_, _+_, _<_}
+use Prim.Native.Nat.{_-_, _<_}
 use native.Mathlib.Omega.{arith}
-use mathlib.Core.Path.{_≡_, _∙_}
+use mathlib.Core.Path.{_∙_}
 use lib.ListN.{length}
 use borrow.Author.Needs.{needs}
 use borrow.Author.Tests.{not-true, not-false}
@@ -10,7 +10,8 @@ use Rattle.tables.specs.Pack.{packEffects}
 use Rattle.package.specs.Sections.{withEffects, HasDeclared, Going}
 use Rattle.package.proofs.Loops.{going-start, moved-within}
 use Rattle.package.proofs.Stores.{effects-none}
-use Rattle.package.proofs.Steps.{effect-room, effect-refused, effect-on}
+use Rattle.package.proofs.Steps.{line-room, line-refused, line-on}
+use Rattle.package.proofs.Known.{effects-kept, by-number}
 use Rattle.package.proofs.effects.read_effects.Statement.{statement}
 use Rattle.package.proofs.effects.read_effects.Tie as tie
 
@@ -54,16 +55,16 @@ judge-effect-requires : tie.Need-judge-effect-requires Inv-loop μ-loop
 judge-effect-requires c κs = search needs
 
 returns-2 : tie.Need-returns-2 Inv-loop μ-loop
-returns-2 c = effect-refused (c .before .before .before .before .before .before .before .before .before .loop .inv) (c .before .before .before .before .before .before .before .before .line-of .ensures .found (not-false _ (c .before .before .before .before .before .before .before .if1 .left))) _ _ (c .before .before .before .before .wide .ensures .0) (c .before .judge-effect .ensures) (c .if2 .taken)
+returns-2 c = line-refused (effects-kept _ _ _ _ _) (c .before .before .before .before .before .before .before .before .before .loop .inv) (c .before .before .before .before .before .before .before .before .line-of .ensures .found (not-false _ (c .before .before .before .before .before .before .before .if1 .left))) (by-number (c .before .before .before .before .before .before .before .before .before .before .before .before .args .nc) (c .before .before .before .before .before .before .before .before .before .before .before .before .args .t4) (c .before .before .before .before .before .before .before .before .before .before .before .before .args .t5) _ _ _ _ (c .before .before .before .before .wide .ensures .0) (c .before .judge-effect .ensures)) (c .if2 .taken)
 
 effect-of-requires : tie.Need-effect-of-requires Inv-loop μ-loop
 effect-of-requires c κs = search needs
 
 room : (c : tie.After-effect-of Inv-loop μ-loop) → c .before .before .before .before .before .before .before .before .before .before .loop .x .n < 1024
-room c = effect-room (c .before .before .before .before .before .before .before .before .before .before .loop .inv) (c .before .before .before .before .before .before .before .before .before .line-of .ensures .found (not-false _ (c .before .before .before .before .before .before .before .before .if1 .left))) _ _ (c .before .before .before .before .before .wide .ensures .0) (c .before .before .judge-effect .ensures) (c .before .if2 .left)
+room c = line-room (effects-kept _ _ _ _ _) (c .before .before .before .before .before .before .before .before .before .before .loop .inv) (c .before .before .before .before .before .before .before .before .before .line-of .ensures .found (not-false _ (c .before .before .before .before .before .before .before .before .if1 .left))) (by-number (c .before .before .before .before .before .before .before .before .before .before .before .before .before .args .nc) (c .before .before .before .before .before .before .before .before .before .before .before .before .before .args .t4) (c .before .before .before .before .before .before .before .before .before .before .before .before .before .args .t5) _ _ _ _ (c .before .before .before .before .before .wide .ensures .0) (c .before .before .judge-effect .ensures)) (c .before .if2 .left)
 
-mul-t26 : tie.Need-mul-t26 Inv-loop μ-loop
-mul-t26 c = omega (arith, room c)
+mul-t25 : tie.Need-mul-t25 Inv-loop μ-loop
+mul-t25 c = omega (arith, room c)
 
 element-set-from-x : tie.Need-element-set-from-x Inv-loop μ-loop
 element-set-from-x c = room c
@@ -71,16 +72,16 @@ element-set-from-x c = room c
 add-x : tie.Need-add-x Inv-loop μ-loop
 add-x c = omega (arith, room c)
 
-add-t26 : tie.Need-add-t26 Inv-loop μ-loop
-add-t26 c = let w = c .before .before .before .before .before .before .before .before .before .before .before .loop .inv .within in omega (arith, w .at, w .line)
+moved-requires : tie.Need-moved-requires Inv-loop μ-loop
+moved-requires c κs = let d = (c .before .before .before .before .before .before .before .before .before .line-of .ensures .found (not-false _ (c .before .before .before .before .before .before .before .before .if1 .left))) in omega (arith, d .taken .next, c .before .before .before .before .before .before .before .before .before .before .loop .inv .within .line)
 
 loop-less : tie.Need-loop-less Inv-loop μ-loop
 loop-less c =
-    let d = c .before .before .before .before .before .before .before .before .before .before .line-of .ensures .found (not-false _ (c .before .before .before .before .before .before .before .before .before .if1 .left)) in
-    omega (arith, moved-within (c .before .before .before .before .before .before .before .before .before .before .before .loop .inv .within) d .at, d .taken .next)
+    let d = (c .before .before .before .before .before .before .before .before .before .before .line-of .ensures .found (not-false _ (c .before .before .before .before .before .before .before .before .before .if1 .left))) in
+    rw (c .moved .ensures) (omega (arith, moved-within (c .before .before .before .before .before .before .before .before .before .before .before .loop .inv .within) d .at, d .taken .next))
 
 loop-again : tie.Need-loop-again Inv-loop μ-loop
-loop-again c = effect-on (c .before .before .before .before .before .before .before .before .before .before .before .loop .inv) (c .before .before .before .before .before .before .before .before .before .before .line-of .ensures .found (not-false _ (c .before .before .before .before .before .before .before .before .before .if1 .left))) _ _ (c .before .before .before .before .before .before .wide .ensures .0) (c .before .before .before .judge-effect .ensures) (c .before .effect-of .ensures) (c .before .before .if2 .left)
+loop-again c = rw (c .moved .ensures) (line-on (effects-kept _ _ _ _ _) (c .before .before .before .before .before .before .before .before .before .before .before .loop .inv) (c .before .before .before .before .before .before .before .before .before .before .line-of .ensures .found (not-false _ (c .before .before .before .before .before .before .before .before .before .if1 .left))) (by-number (c .before .before .before .before .before .before .before .before .before .before .before .before .before .before .args .nc) (c .before .before .before .before .before .before .before .before .before .before .before .before .before .before .args .t4) (c .before .before .before .before .before .before .before .before .before .before .before .before .before .before .args .t5) _ _ _ _ (c .before .before .before .before .before .before .wide .ensures .0) (c .before .before .before .judge-effect .ensures)) (c .before .effect-of .ensures) (c .before .before .if2 .left))
 
 pub read-effects-spec : {M : Type 1} → statement M
 read-effects-spec =
@@ -101,9 +102,9 @@ read-effects-spec =
     judge-effect-requires
     returns-2
     effect-of-requires
-    mul-t26
+    mul-t25
     element-set-from-x
     add-x
-    add-t26
+    moved-requires
     loop-less
     loop-again)

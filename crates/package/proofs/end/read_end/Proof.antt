@@ -1,6 +1,6 @@
 -- `read_end` reads the last line: each refusal is the one that `meaning` gives, and behind 07 nothing may stand.
 -- Assumes nothing.
-use mathlib.Core.Path.{_≡_, sym, _∙_}
+use mathlib.Core.Path.{sym, _∙_}
 use lib.Dec.{lit<}
 use borrow.Author.Tests.{not-true, not-false}
 use Rattle.text.proofs.Cuts.{cut-taken, cut-refused}

@@ -1,6 +1,6 @@
 -- `line_of` finds the line at the cursor where `scan` does, if it is of the kind and nothing is refused there.
 -- Assumes nothing.
-use mathlib.Core.Path.{_≡_, sym, _∙_}
+use mathlib.Core.Path.{sym, _∙_}
 use lib.Dec.{lit<}
 use borrow.Author.Tests.{not-true, not-false}
 use Rattle.text.proofs.Cuts.{cut-taken, cut-refused}

@@ -1,8 +1,8 @@
--- `read_pairs` reads its section: the text is read on from the cursor as it was from the section's start, with the list so far in the table.
+-- `read_pairs` reads its section: with the list so far in the table, the text reads on from the cursor as it does from the section's start.
 -- Assumes nothing.
-use Prim.Native.Nat.{ℕ, _-_, _+_, _<_}
+use Prim.Native.Nat.{_-_, _<_}
 use native.Mathlib.Omega.{arith}
-use mathlib.Core.Path.{_≡_, _∙_}
+use mathlib.Core.Path.{_∙_}
 use lib.ListN.{length}
 use borrow.Author.Needs.{needs}
 use borrow.Author.Tests.{not-true, not-false}
@@ -10,7 +10,8 @@ use Rattle.tables.specs.Pack.{packPairs}
 use Rattle.package.specs.Sections.{withPairs, HasDomains, Going}
 use Rattle.package.proofs.Loops.{going-start, moved-within}
 use Rattle.package.proofs.Stores.{pairs-none}
-use Rattle.package.proofs.Steps.{pair-room, pair-refused, pair-on}
+use Rattle.package.proofs.Steps.{line-room, line-refused, line-on}
+use Rattle.package.proofs.Known.{pairs-kept}
 use Rattle.package.proofs.pairs.read_pairs.Statement.{statement}
 use Rattle.package.proofs.pairs.read_pairs.Tie as tie
 
@@ -36,16 +37,16 @@ judge-pair-requires : tie.Need-judge-pair-requires Inv-loop μ-loop
 judge-pair-requires c κs = search needs
 
 returns-2 : tie.Need-returns-2 Inv-loop μ-loop
-returns-2 c = pair-refused (c .before .before .before .before .before .loop .inv) (c .before .before .before .before .line-of .ensures .found (not-false _ (c .before .before .before .if1 .left))) (c .before .judge-pair .ensures) (c .if2 .taken)
+returns-2 c = line-refused (pairs-kept _) (c .before .before .before .before .before .loop .inv) (c .before .before .before .before .line-of .ensures .found (not-false _ (c .before .before .before .if1 .left))) (c .before .judge-pair .ensures) (c .if2 .taken)
 
 pair-of-requires : tie.Need-pair-of-requires Inv-loop μ-loop
 pair-of-requires c κs = search needs
 
 room : (c : tie.After-pair-of Inv-loop μ-loop) → c .before .before .before .before .before .before .loop .x .n < 128
-room c = pair-room (c .before .before .before .before .before .before .loop .inv) (c .before .before .before .before .before .line-of .ensures .found (not-false _ (c .before .before .before .before .if1 .left))) (c .before .before .judge-pair .ensures) (c .before .if2 .left)
+room c = line-room (pairs-kept _) (c .before .before .before .before .before .before .loop .inv) (c .before .before .before .before .before .line-of .ensures .found (not-false _ (c .before .before .before .before .if1 .left))) (c .before .before .judge-pair .ensures) (c .before .if2 .left)
 
-mul-t17 : tie.Need-mul-t17 Inv-loop μ-loop
-mul-t17 c = omega (arith, room c)
+mul-t16 : tie.Need-mul-t16 Inv-loop μ-loop
+mul-t16 c = omega (arith, room c)
 
 element-set-from-x : tie.Need-element-set-from-x Inv-loop μ-loop
 element-set-from-x c = room c
@@ -53,16 +54,16 @@ element-set-from-x c = room c
 add-x : tie.Need-add-x Inv-loop μ-loop
 add-x c = omega (arith, room c)
 
-add-t17 : tie.Need-add-t17 Inv-loop μ-loop
-add-t17 c = let w = c .before .before .before .before .before .before .before .loop .inv .within in omega (arith, w .at, w .line)
+moved-requires : tie.Need-moved-requires Inv-loop μ-loop
+moved-requires c κs = let d = (c .before .before .before .before .before .line-of .ensures .found (not-false _ (c .before .before .before .before .if1 .left))) in omega (arith, d .taken .next, c .before .before .before .before .before .before .loop .inv .within .line)
 
 loop-less : tie.Need-loop-less Inv-loop μ-loop
 loop-less c =
-    let d = c .before .before .before .before .before .before .line-of .ensures .found (not-false _ (c .before .before .before .before .before .if1 .left)) in
-    omega (arith, moved-within (c .before .before .before .before .before .before .before .loop .inv .within) d .at, d .taken .next)
+    let d = (c .before .before .before .before .before .before .line-of .ensures .found (not-false _ (c .before .before .before .before .before .if1 .left))) in
+    rw (c .moved .ensures) (omega (arith, moved-within (c .before .before .before .before .before .before .before .loop .inv .within) d .at, d .taken .next))
 
 loop-again : tie.Need-loop-again Inv-loop μ-loop
-loop-again c = pair-on (c .before .before .before .before .before .before .before .loop .inv) (c .before .before .before .before .before .before .line-of .ensures .found (not-false _ (c .before .before .before .before .before .if1 .left))) (c .before .before .before .judge-pair .ensures) (c .before .pair-of .ensures) (c .before .before .if2 .left)
+loop-again c = rw (c .moved .ensures) (line-on (pairs-kept _) (c .before .before .before .before .before .before .before .loop .inv) (c .before .before .before .before .before .before .line-of .ensures .found (not-false _ (c .before .before .before .before .before .if1 .left))) (c .before .before .before .judge-pair .ensures) (c .before .pair-of .ensures) (c .before .before .if2 .left))
 
 pub read-pairs-spec : {M : Type 1} → statement M
 read-pairs-spec =
@@ -77,9 +78,9 @@ read-pairs-spec =
     judge-pair-requires
     returns-2
     pair-of-requires
-    mul-t17
+    mul-t16
     element-set-from-x
     add-x
-    add-t17
+    moved-requires
     loop-less
     loop-again)

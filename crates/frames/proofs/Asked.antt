@@ -1,38 +1,16 @@
--- A test in the code, over what a call gave, as the definition's test: its answer, from the arm that was taken.
+-- The answer of a row of tests, from their front; and of one test of each byte of a slice.
 -- Assumes nothing.
 use Prim.Native.Nat.{ℕ, _+_, _≤_, _<_}
 use native.Mathlib.Nat.{min-le-left}
 use native.Mathlib.Numerals.{add-one}
 use native.Mathlib.Omega.{arith}
-use mathlib.Core.Path.{_≡_, sym, ap, _∙_}
-use mathlib.Core.Bool.{Bool, true, false, not, _&&_}
+use mathlib.Core.Path.{_≡_, ap, _∙_}
+use mathlib.Core.Bool.{Bool, true, false, _&&_}
 use mathlib.Core.List.{List}
-use lib.Dec.{leb, ltb}
 use lib.ListN.{length, getD, take, length-take, drop-of-length-le}
 use lib.Seq.{slice, slice-cons}
-use borrow.Author.Tests.{not-true, not-false, lt-ltb, le-ltb, le-leb, lt-leb}
 use Rattle.meaning.specs.Lists.{all}
 use Rattle.frames.specs.Judging.{ask, below}
-
-module _ {b d : Bool} (e : b ≡ d) where
-  pub passed : not b ≡ false → d ≡ true
-  passed h = sym e ∙ not-false b h
-
-  pub failed : not b ≡ true → d ≡ false
-  failed h = sym e ∙ not-true b h
-
-module _ {x y n : ℕ} (e : y ≡ x) where
-  pub declared : y < n → ltb x n ≡ true
-  declared h = lt-ltb x n (rw e at h)
-
-  pub undeclared : n ≤ y → ltb x n ≡ false
-  undeclared h = le-ltb x n (rw e at h)
-
-  pub few : y ≤ n → leb x n ≡ true
-  few h = le-leb x n (rw e at h)
-
-  pub many : n < y → leb x n ≡ false
-  many h = lt-leb x n (rw e at h)
 
 -- what the first test says, and the others behind it
 module _ (k y : ℕ) {b : Bool} where

@@ -9,6 +9,7 @@ ghost use Rattle.runs.specs.Steps.{holdsBelow, isA, step};
 ghost use Rattle.state.specs.View.{labelView, linkView, frameView, poolFrom, view};
 ghost use Rattle.state.specs.Fine.{Fine, doneOf};
 ghost use Rattle.permits.specs.Keys.{Pairs, Exact, Alike};
+ghost use Rattle.moves.specs.Linked.{readBy, writtenBy};
 ghost use Rattle.moves.specs.Below.{Supers, belowBy, labelBelow, objectBelow};
 use state::Done;
 use state::Label;
@@ -151,6 +152,33 @@ fn link_of(pairs: &[u16; 256], owner: u8, f: u8, target: u8) -> Link
     }
 }
 
+// The target of a link that is there joins the running frame at the link's type.
+fn read(s: State, k: Link) -> Done
+    requires { ⌜ Fine s ⌝ }
+    ensures { λ d. ⌜ d ≡ doneOf s (readBy (view s) (linkView k)) ⌝ }
+{
+    let links = s.links;
+    let n = s.nlinks;
+    if !state::has_link(links, n, k) {
+        return Done { code: 62, state: s };
+    }
+    state::add_label(s, k.target, k.typ)
+}
+
+// A link whose target the running frame holds at the link's type joins the links.
+fn write(s: State, k: Link) -> Done
+    requires { ⌜ Fine s ⌝ }
+    ensures { λ d. ⌜ d ≡ doneOf s (writtenBy (view s) (linkView k)) ⌝ }
+{
+    let labels = s.labels;
+    let depth = s.depth;
+    let n = s.n;
+    if !state::has_label(labels, depth, n, k.target, k.typ) {
+        return Done { code: 62, state: s };
+    }
+    state::add_link(s, k)
+}
+
 // 23 ff qq
 pub fn getstatic(s: State, alike: &[u32], pairs: &[u16; 256], f: u8, q: u8) -> Done
     requires { ⌜ Fine s ⌝ }
@@ -160,13 +188,7 @@ pub fn getstatic(s: State, alike: &[u32], pairs: &[u16; 256], f: u8, q: u8) -> D
     if !permits::permitted_field(alike, pairs, s.method, 2, f) {
         return Done { code: 61, state: s };
     }
-    let k = link_of(pairs, 255, f, q);
-    let links = s.links;
-    let n = s.nlinks;
-    if !state::has_link(links, n, k) {
-        return Done { code: 62, state: s };
-    }
-    state::add_label(s, q, k.typ)
+    read(s, link_of(pairs, 255, f, q))
 }
 
 // 24 ff qq
@@ -178,14 +200,7 @@ pub fn putstatic(s: State, alike: &[u32], pairs: &[u16; 256], f: u8, q: u8) -> D
     if !permits::permitted_field(alike, pairs, s.method, 3, f) {
         return Done { code: 61, state: s };
     }
-    let k = link_of(pairs, 255, f, q);
-    let labels = s.labels;
-    let depth = s.depth;
-    let n = s.n;
-    if !state::has_label(labels, depth, n, q, k.typ) {
-        return Done { code: 62, state: s };
-    }
-    state::add_link(s, k)
+    write(s, link_of(pairs, 255, f, q))
 }
 
 // 25 ff pp qq
@@ -212,12 +227,7 @@ pub fn getfield(
     if !has_below(rows, labels, depth, n, p, k.declared) {
         return Done { code: 62, state: s };
     }
-    let links = s.links;
-    let m = s.nlinks;
-    if !state::has_link(links, m, k) {
-        return Done { code: 62, state: s };
-    }
-    state::add_label(s, q, k.typ)
+    read(s, k)
 }
 
 // 26 ff pp qq
@@ -244,8 +254,5 @@ pub fn putfield(
     if !has_below(rows, labels, depth, n, p, k.declared) {
         return Done { code: 62, state: s };
     }
-    if !state::has_label(labels, depth, n, q, k.typ) {
-        return Done { code: 62, state: s };
-    }
-    state::add_link(s, k)
+    write(s, k)
 }

@@ -1,8 +1,8 @@
 -- `moves::getfield` meets its contract: each test is the definition's, in its order, of the link that the field has. Assumes nothing.
 use borrow.Author.Needs.{needs}
-use Rattle.runs.specs.Steps.{step}
 use Rattle.state.specs.View.{view}
 use Rattle.state.proofs.Premises.{missing, held}
+use Rattle.runs.specs.Steps.{step}
 use Rattle.moves.proofs.Fields.{getfield-of}
 use Rattle.moves.proofs.getfield.Statement.{statement}
 use Rattle.moves.proofs.getfield.Tie as tie
@@ -27,25 +27,15 @@ returns-2 c = λ P p x w.
     getfield-of P (a .s) (view (a .s)) (a .f) (a .q) _ (a .p) (c .before .before .before .link-of .ensures P p)
     (rw (held (c .before .before .before .before .before .permitted-field .ensures .1 P p x) (c .before .before .before .before .if1 .left), missing (c .before .has-below .ensures .1 P w) (c .if2 .taken)))
 
-has-link-requires : tie.Need-has-link-requires
-has-link-requires c κs = search needs
+read-requires : tie.Need-read-requires
+read-requires c κs = search needs
 
 returns-3 : tie.Need-returns-3
 unfolding view
 returns-3 c = λ P p x w.
-    let a = c .before .before .before .before .before .before .before .before .before .before .args in
-    getfield-of P (a .s) (view (a .s)) (a .f) (a .q) _ (a .p) (c .before .before .before .before .before .before .link-of .ensures P p)
-    (rw (held (c .before .before .before .before .before .before .before .before .permitted-field .ensures .1 P p x) (c .before .before .before .before .before .before .before .if1 .left), held (c .before .before .before .before .has-below .ensures .1 P w) (c .before .before .before .if2 .left), missing (c .before .has-link .ensures) (c .if3 .taken)))
-
-add-label-requires : tie.Need-add-label-requires
-add-label-requires c κs = search needs
-
-returns-4 : tie.Need-returns-4
-unfolding view
-returns-4 c = λ P p x w.
-    let a = c .before .before .before .before .before .before .before .before .before .before .before .args in
-    getfield-of P (a .s) (view (a .s)) (a .f) (a .q) _ (a .p) (c .before .before .before .before .before .before .before .link-of .ensures P p)
-    (rw (held (c .before .before .before .before .before .before .before .before .before .permitted-field .ensures .1 P p x) (c .before .before .before .before .before .before .before .before .if1 .left), held (c .before .before .before .before .before .has-below .ensures .1 P w) (c .before .before .before .before .if2 .left), held (c .before .before .has-link .ensures) (c .before .if3 .left)) (c .add-label .ensures))
+    let a = c .before .before .before .before .before .before .before .before .args in
+    getfield-of P (a .s) (view (a .s)) (a .f) (a .q) _ (a .p) (c .before .before .before .before .link-of .ensures P p)
+    (rw (held (c .before .before .before .before .before .before .permitted-field .ensures .1 P p x) (c .before .before .before .before .before .if1 .left), held (c .before .before .has-below .ensures .1 P w) (c .before .if2 .left)) (c .read .ensures))
 
 pub getfield-spec : {M : Type 1} → statement M
 getfield-spec =
@@ -56,7 +46,5 @@ getfield-spec =
     link-of-requires
     has-below-requires
     returns-2
-    has-link-requires
-    returns-3
-    add-label-requires
-    returns-4)
+    read-requires
+    returns-3)

@@ -1,8 +1,8 @@
 -- `moves::getstatic` meets its contract: each test is the definition's, in its order, of the link that the field has. Assumes nothing.
 use borrow.Author.Needs.{needs}
-use Rattle.runs.specs.Steps.{step}
 use Rattle.state.specs.View.{view}
 use Rattle.state.proofs.Premises.{missing, held}
+use Rattle.runs.specs.Steps.{step}
 use Rattle.moves.proofs.Fields.{getstatic-of}
 use Rattle.moves.proofs.getstatic.Statement.{statement}
 use Rattle.moves.proofs.getstatic.Tie as tie
@@ -17,34 +17,16 @@ returns c = λ P p x. rw (missing (c .before .permitted-field .ensures .1 P p x)
 link-of-requires : tie.Need-link-of-requires
 link-of-requires c κs = search needs
 
-has-link-requires : tie.Need-has-link-requires
-has-link-requires c κs = search needs
+read-requires : tie.Need-read-requires
+read-requires c κs = search needs
 
 returns-2 : tie.Need-returns-2
 unfolding view
 returns-2 c = λ P p x.
-    let a = c .before .before .before .before .before .before .before .args in
-    getstatic-of P (a .s) (view (a .s)) (a .f) (a .q) _ (c .before .before .before .link-of .ensures P p)
-    (rw (held (c .before .before .before .before .before .permitted-field .ensures .1 P p x) (c .before .before .before .before .if1 .left), missing (c .before .has-link .ensures) (c .if2 .taken)))
-
-add-label-requires : tie.Need-add-label-requires
-add-label-requires c κs = search needs
-
-returns-3 : tie.Need-returns-3
-unfolding view
-returns-3 c = λ P p x.
-    let a = c .before .before .before .before .before .before .before .before .args in
-    getstatic-of P (a .s) (view (a .s)) (a .f) (a .q) _ (c .before .before .before .before .link-of .ensures P p)
-    (rw (held (c .before .before .before .before .before .before .permitted-field .ensures .1 P p x) (c .before .before .before .before .before .if1 .left), held (c .before .before .has-link .ensures) (c .before .if2 .left)) (c .add-label .ensures))
+    let a = c .before .before .before .before .before .args in
+    getstatic-of P (a .s) (view (a .s)) (a .f) (a .q) _ (c .before .link-of .ensures P p)
+    (rw (held (c .before .before .before .permitted-field .ensures .1 P p x) (c .before .before .if1 .left)) (c .read .ensures))
 
 pub getstatic-spec : {M : Type 1} → statement M
 getstatic-spec =
-    tie.close
-    (tie.spec
-    permitted-field-requires
-    returns
-    link-of-requires
-    has-link-requires
-    returns-2
-    add-label-requires
-    returns-3)
+    tie.close (tie.spec permitted-field-requires returns link-of-requires read-requires returns-2)

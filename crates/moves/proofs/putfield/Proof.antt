@@ -1,8 +1,8 @@
 -- `moves::putfield` meets its contract: each test is the definition's, in its order, of the link that the field has. Assumes nothing.
 use borrow.Author.Needs.{needs}
-use Rattle.runs.specs.Steps.{step}
 use Rattle.state.specs.View.{view}
 use Rattle.state.proofs.Premises.{missing, held}
+use Rattle.runs.specs.Steps.{step}
 use Rattle.moves.proofs.Fields.{putfield-of}
 use Rattle.moves.proofs.putfield.Statement.{statement}
 use Rattle.moves.proofs.putfield.Tie as tie
@@ -27,25 +27,15 @@ returns-2 c = λ P p x w.
     putfield-of P (a .s) (view (a .s)) (a .f) (a .q) _ (a .p) (c .before .before .before .link-of .ensures P p)
     (rw (held (c .before .before .before .before .before .permitted-field .ensures .1 P p x) (c .before .before .before .before .if1 .left), missing (c .before .has-below .ensures .1 P w) (c .if2 .taken)))
 
-has-label-requires : tie.Need-has-label-requires
-has-label-requires c κs = search needs
+write-requires : tie.Need-write-requires
+write-requires c κs = search needs
 
 returns-3 : tie.Need-returns-3
 unfolding view
 returns-3 c = λ P p x w.
-    let a = c .before .before .before .before .before .before .before .before .before .args in
-    putfield-of P (a .s) (view (a .s)) (a .f) (a .q) _ (a .p) (c .before .before .before .before .before .link-of .ensures P p)
-    (rw (held (c .before .before .before .before .before .before .before .permitted-field .ensures .1 P p x) (c .before .before .before .before .before .before .if1 .left), held (c .before .before .before .has-below .ensures .1 P w) (c .before .before .if2 .left), missing (c .before .has-label .ensures) (c .if3 .taken)))
-
-add-link-requires : tie.Need-add-link-requires
-add-link-requires c κs = search needs
-
-returns-4 : tie.Need-returns-4
-unfolding view
-returns-4 c = λ P p x w.
-    let a = c .before .before .before .before .before .before .before .before .before .before .args in
-    putfield-of P (a .s) (view (a .s)) (a .f) (a .q) _ (a .p) (c .before .before .before .before .before .before .link-of .ensures P p)
-    (rw (held (c .before .before .before .before .before .before .before .before .permitted-field .ensures .1 P p x) (c .before .before .before .before .before .before .before .if1 .left), held (c .before .before .before .before .has-below .ensures .1 P w) (c .before .before .before .if2 .left), held (c .before .before .has-label .ensures) (c .before .if3 .left)) (c .add-link .ensures))
+    let a = c .before .before .before .before .before .before .before .before .args in
+    putfield-of P (a .s) (view (a .s)) (a .f) (a .q) _ (a .p) (c .before .before .before .before .link-of .ensures P p)
+    (rw (held (c .before .before .before .before .before .before .permitted-field .ensures .1 P p x) (c .before .before .before .before .before .if1 .left), held (c .before .before .has-below .ensures .1 P w) (c .before .if2 .left)) (c .write .ensures))
 
 pub putfield-spec : {M : Type 1} → statement M
 putfield-spec =
@@ -56,7 +46,5 @@ putfield-spec =
     link-of-requires
     has-below-requires
     returns-2
-    has-label-requires
-    returns-3
-    add-link-requires
-    returns-4)
+    write-requires
+    returns-3)

@@ -1,8 +1,8 @@
 -- `moves::putstatic` meets its contract: each test is the definition's, in its order, of the link that the field has. Assumes nothing.
 use borrow.Author.Needs.{needs}
-use Rattle.runs.specs.Steps.{step}
 use Rattle.state.specs.View.{view}
 use Rattle.state.proofs.Premises.{missing, held}
+use Rattle.runs.specs.Steps.{step}
 use Rattle.moves.proofs.Fields.{putstatic-of}
 use Rattle.moves.proofs.putstatic.Statement.{statement}
 use Rattle.moves.proofs.putstatic.Tie as tie
@@ -17,34 +17,16 @@ returns c = λ P p x. rw (missing (c .before .permitted-field .ensures .1 P p x)
 link-of-requires : tie.Need-link-of-requires
 link-of-requires c κs = search needs
 
-has-label-requires : tie.Need-has-label-requires
-has-label-requires c κs = search needs
+write-requires : tie.Need-write-requires
+write-requires c κs = search needs
 
 returns-2 : tie.Need-returns-2
 unfolding view
 returns-2 c = λ P p x.
-    let a = c .before .before .before .before .before .before .before .args in
-    putstatic-of P (a .s) (view (a .s)) (a .f) (a .q) _ (c .before .before .before .link-of .ensures P p)
-    (rw (held (c .before .before .before .before .before .permitted-field .ensures .1 P p x) (c .before .before .before .before .if1 .left), missing (c .before .has-label .ensures) (c .if2 .taken)))
-
-add-link-requires : tie.Need-add-link-requires
-add-link-requires c κs = search needs
-
-returns-3 : tie.Need-returns-3
-unfolding view
-returns-3 c = λ P p x.
-    let a = c .before .before .before .before .before .before .before .before .args in
-    putstatic-of P (a .s) (view (a .s)) (a .f) (a .q) _ (c .before .before .before .before .link-of .ensures P p)
-    (rw (held (c .before .before .before .before .before .before .permitted-field .ensures .1 P p x) (c .before .before .before .before .before .if1 .left), held (c .before .before .has-label .ensures) (c .before .if2 .left)) (c .add-link .ensures))
+    let a = c .before .before .before .before .before .args in
+    putstatic-of P (a .s) (view (a .s)) (a .f) (a .q) _ (c .before .link-of .ensures P p)
+    (rw (held (c .before .before .before .permitted-field .ensures .1 P p x) (c .before .before .if1 .left)) (c .write .ensures))
 
 pub putstatic-spec : {M : Type 1} → statement M
 putstatic-spec =
-    tie.close
-    (tie.spec
-    permitted-field-requires
-    returns
-    link-of-requires
-    has-label-requires
-    returns-2
-    add-link-requires
-    returns-3)
+    tie.close (tie.spec permitted-field-requires returns link-of-requires write-requires returns-2)

@@ -101,7 +101,7 @@ module _ {P : Package} {homes doms supers apart above : List ℕ} (w : Known P h
   super-is : (a b : ℕ) → a < length (P .classes) → b < length (P .classes) → rowBit supers a b ≡ subtype P a b
   super-is = row-is (length (P .classes)) (subtype P) supers (w .the-supers) few
 
-  apart-is : (a b : ℕ) → a < length (P .classes) → b < length (P .classes) → rowBit apart a b ≡ suspicious P a b
+  pub apart-is : (a b : ℕ) → a < length (P .classes) → b < length (P .classes) → rowBit apart a b ≡ suspicious P a b
   apart-is = row-is (length (P .classes)) (suspicious P) apart (w .the-apart) few
 
   pub law10 : (d e : ℕ) → d < P .domains → e < P .domains → by10 doms d e ≡ breaks10 P d e

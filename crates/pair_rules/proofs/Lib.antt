@@ -3,4 +3,5 @@ pub mod Params
 pub mod Laws
 pub mod Filled
 pub mod Visiting
+pub mod Stepwise
 pub mod Judged

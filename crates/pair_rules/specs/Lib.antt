@@ -2,3 +2,4 @@ pub mod Tests
 pub mod Visits
 pub mod Rows
 pub mod Judged
+pub mod Stepwise

@@ -71,6 +71,9 @@ fn find(
             above,
         );
     }
+    if crate::direct::clears(rule, classes, homes, doms, apart) {
+        return Found::Nothing;
+    }
     let keys = crate::visits::plain();
     let all = crate::visits::visits_of(&keys, n);
     crate::search::first_pair(rule, n, all, methods, homes, doms, supers, apart, above)

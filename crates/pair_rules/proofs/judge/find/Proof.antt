@@ -1,10 +1,12 @@
--- `pair_rules::find` meets its contract. The search over the code's tests finds what the definition's does.
+-- `pair_rules::find` meets its contract. The search over the code's tests finds what the definition's does, and nothing where no step fails.
 -- Assumes nothing.
 use mathlib.Core.List.{List}
 use Prim.Native.Nat.{ℕ}
 use Rattle.pair_rules.specs.Visits.{Visited}
-use mathlib.Core.Path.{sym, _∙_, subst}
+use mathlib.Core.Path.{sym, ap, _∙_, subst}
 use Rattle.homes.proofs.Laws.{small}
+use Rattle.found.specs.Found.{foundOf}
+use Rattle.pair_rules.proofs.Stepwise.{few-classes, class-steps, cleared}
 use Rattle.pair_rules.proofs.Judged.{size-few, search-all, search-slots, found-is}
 use borrow.Author.Needs.{needs}
 use Rattle.pair_rules.proofs.judge.find.Statement.{statement}
@@ -22,17 +24,23 @@ first-pair-requires c κs = (small (c .before .before .before .before .before .p
 returns : tie.Need-returns
 returns c = c .first-pair .ensures ∙ found-is _ (c .before .before .before .before .before .before .pre .0) (c .before .before .before .before .before .before .pre .1 .0) _ _ (c .before .before .before .size-of .ensures)
 
+clears-requires : tie.Need-clears-requires
+clears-requires c κs = (few-classes _ (c .before .before .before .before .before .pre .0) (c .before .before .before .before .before .pre .1 .0), (small (c .before .before .before .before .before .pre .1 .0 .rows), class-steps _ (c .before .before .before .before .before .pre .0) (c .before .before .before .before .before .pre .1 .0)))
+
+returns-2 : tie.Need-returns-2
+returns-2 c = sym (ap foundOf (cleared _ (c .before .before .before .before .before .before .before .pre .0) (c .before .before .before .before .before .before .before .pre .1 .0) _ (sym (c .before .before .before .of-methods .ensures) ∙ c .before .before .if1 .left) (sym (c .before .clears .ensures) ∙ c .if2 .taken)))
+
 plain-requires : tie.Need-plain-requires
 plain-requires c κs = search needs
 
 visits-of-requires : tie.Need-visits-of-requires
-visits-of-requires c κs = size-few _ (c .before .before .before .before .before .before .before .pre .0) (c .before .before .before .before .before .before .before .pre .1 .0) _ _ (c .before .before .before .before .size-of .ensures)
+visits-of-requires c κs = size-few _ (c .before .before .before .before .before .before .before .before .before .pre .0) (c .before .before .before .before .before .before .before .before .before .pre .1 .0) _ _ (c .before .before .before .before .before .before .size-of .ensures)
 
 first-pair-requires-2 : tie.Need-first-pair-requires-2
-first-pair-requires-2 c κs = (small (c .before .before .before .before .before .before .before .before .pre .1 .0 .rows), search-all _ (c .before .before .before .before .before .before .before .before .pre .0) (c .before .before .before .before .before .before .before .before .pre .1 .0) _ _ _ _ (c .before .before .before .before .before .size-of .ensures) (subst (λ (ks : List ℕ). Visited ks (c .before .before .before .before .before .size-of .result) (c .visits-of .result .starts) (c .visits-of .result .nexts)) (c .before .before .plain .ensures) (c .visits-of .ensures)))
+first-pair-requires-2 c κs = (small (c .before .before .before .before .before .before .before .before .before .before .pre .1 .0 .rows), search-all _ (c .before .before .before .before .before .before .before .before .before .before .pre .0) (c .before .before .before .before .before .before .before .before .before .before .pre .1 .0) _ _ _ _ (c .before .before .before .before .before .before .before .size-of .ensures) (subst (λ (ks : List ℕ). Visited ks (c .before .before .before .before .before .before .before .size-of .result) (c .visits-of .result .starts) (c .visits-of .result .nexts)) (c .before .before .plain .ensures) (c .visits-of .ensures)))
 
-returns-2 : tie.Need-returns-2
-returns-2 c = c .first-pair2 .ensures ∙ found-is _ (c .before .before .before .before .before .before .before .before .before .pre .0) (c .before .before .before .before .before .before .before .before .before .pre .1 .0) _ _ (c .before .before .before .before .before .before .size-of .ensures)
+returns-3 : tie.Need-returns-3
+returns-3 c = c .first-pair2 .ensures ∙ found-is _ (c .before .before .before .before .before .before .before .before .before .before .before .pre .0) (c .before .before .before .before .before .before .before .before .before .before .before .pre .1 .0) _ _ (c .before .before .before .before .before .before .before .before .size-of .ensures)
 
 pub find-spec : {M : Type 1} → statement M
 find-spec =
@@ -42,7 +50,9 @@ find-spec =
     of-methods-requires
     first-pair-requires
     returns
+    clears-requires
+    returns-2
     plain-requires
     visits-of-requires
     first-pair-requires-2
-    returns-2)
+    returns-3)

@@ -1,16 +1,26 @@
 -- Visits: a row starts within the places, and what a row passes over breaks nothing.
 -- Assumes nothing.
 use Prim.Native.Nat.{ℕ, zero, suc, _+_, _≤_, _<_}
-use native.Mathlib.Nat.{le-refl, not-suc-le-zero}
+use native.Mathlib.Nat.{le-refl, eq-or-lt-of-le}
 use native.Mathlib.Decide.{ℕ-discrete, decLt}
 use native.Mathlib.Numerals.{add-one}
 use native.Mathlib.Omega.{arith}
 use mathlib.Core.Path.{_≡_, refl, sym, ap, _∙_, subst}
+use mathlib.Core.Logic.{_⊎_, inl, inr}
 use mathlib.Core.Bool.{Bool, true, false}
 use mathlib.Core.List.{List}
-use lib.ListN.{getD}
+use lib.ListN.{length, getD, set, length-set}
+use lib.Seq.{getD-set-same, getD-set-other}
 use Rattle.meaning.proofs.Search.{ClearRow, row-none, row-more}
-use Rattle.pair_rules.specs.Visits.{FirstFrom, StartOf, Visited, Covers}
+use Rattle.pair_rules.specs.Visits.{FirstFrom, StartOf, OwnStart, Started, Visited, Covers}
+use Rattle.pair_rules.proofs.Filled.{Filled}
+
+pub own-most : {keys : List ℕ} {n a r : ℕ} → a < n → OwnStart keys n a r → r ≤ n
+own-most {keys} {n} {a} {r} h w = on (ℕ-discrete (getD keys a 0) 0)
+  where
+    on : Dec (getD keys a 0 ≡ 0) → r ≤ n
+    on (yes e) = omega (arith, w .none e)
+    on (no f) = omega (arith, w .some f)
 
 pub start-most : {keys : List ℕ} {n a r : ℕ} → StartOf keys n a r → r ≤ n
 start-most {keys} {n} {a} {r} w = on (ℕ-discrete (getD keys a 0) 0)
@@ -88,3 +98,53 @@ module _ {n : ℕ} {test : ℕ → ℕ → Bool} {starts nexts : List ℕ} where
 
   pub stands-clear : {a b : ℕ} → Stands n test starts nexts a b → ClearRow test a b
   stands-clear {a} {b} w = row-clear a b (w .row .clear)
+
+-- ---- the starts
+
+-- a place of the same key starts alike
+start-alike : (keys : List ℕ) (n a b r : ℕ) → getD keys b 0 ≡ getD keys a 0 → StartOf keys n a r → StartOf keys n b r
+start-alike keys n a b r e w = record { none = λ z. w .none (sym e ∙ z); some = λ f. rw e (w .some (λ z. f (e ∙ z))) }
+
+pub own-started : {keys starts : List ℕ} {n i : ℕ} → n ≤ i → length starts ≡ 256 → Filled (OwnStart keys n) i starts → Started keys n 0 starts
+own-started {keys} {starts} {n} {i} h e w =
+    record {
+      long = e;
+      at = λ a l f. let q = w .at a (omega arith) in record { none = q .none; some = λ z. rw (q .some z) (record { up = omega arith; most = omega arith; hit = λ _. refl; skips = f }) };
+    }
+
+module _ {keys starts : List ℕ} {n a r : ℕ} (h : a < n) (few : n ≤ 256) (w : FirstFrom keys n (a + 1) (getD keys a 0) r) (s : Started keys n a starts) where
+  -- the next place of the key of a is the only one that waits for a
+  unmoved : (b : ℕ) → b < n → (b ≡ r → ⊥) → ((i : ℕ) → a + 1 ≤ i → i < b → getD keys i 0 ≡ getD keys b 0 → ⊥) → StartOf keys n b (getD starts b 0)
+  unmoved b l f g = s .at b l (λ i k m e. on i m e (eq-or-lt-of-le k))
+    where
+      on : (i : ℕ) → i < b → getD keys i 0 ≡ getD keys b 0 → (a ≡ i) ⊎ (a < i) → ⊥
+      on i m e (inr k) = g i (omega arith) m e
+      on i m e (inl q) = late (decLt r b) (decLt b r)
+        where
+          same : getD keys a 0 ≡ getD keys b 0
+          same = ap (λ (x : ℕ). getD keys x 0) q ∙ e
+
+          late : Dec (r < b) → Dec (b < r) → ⊥
+          late (yes k) _ = g r (w .up) k (w .hit (omega arith) ∙ same)
+          late (no _) (yes k) = w .skips b (omega arith) k (sym same)
+          late (no x) (no y) = f (omega arith)
+
+  pub started-next : r < n → Started keys n (a + 1) (set starts r (getD starts a 0))
+  started-next k =
+      record {
+        long = length-set starts r (getD starts a 0) ∙ s .long;
+        at = λ b l g. on b l g (ℕ-discrete b r);
+      }
+    where
+      here : StartOf keys n a (getD starts a 0)
+      here = s .at a h (λ i x y. absurd (omega arith))
+
+      on : (b : ℕ) → b < n → ((i : ℕ) → a + 1 ≤ i → i < b → getD keys i 0 ≡ getD keys b 0 → ⊥) → Dec (b ≡ r) → StartOf keys n b (getD (set starts r (getD starts a 0)) b 0)
+      on b l g (yes e) = rw (e, getD-set-same starts r (getD starts a 0) 0 (omega (arith, s .long))) (start-alike keys n a r (getD starts a 0) (w .hit k) here)
+      on b l g (no f) = rw (getD-set-other starts r b (getD starts a 0) 0 f) (unmoved b l f g)
+
+  pub started-last : n ≤ r → Started keys n (a + 1) starts
+  started-last k = record { long = s .long; at = λ b l g. unmoved b l (λ e. absurd (omega arith)) g }
+
+pub started-all : {keys starts : List ℕ} {n i : ℕ} → n ≤ i → Started keys n i starts → (a : ℕ) → a < n → StartOf keys n a (getD starts a 0)
+started-all h s a l = s .at a l (λ i x y. absurd (omega arith))

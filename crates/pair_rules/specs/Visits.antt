@@ -4,7 +4,7 @@ use Prim.Native.Nat.{ℕ, _+_, _≤_, _<_}
 use mathlib.Core.Path.{_≡_}
 use mathlib.Core.Bool.{Bool, true, false}
 use mathlib.Core.List.{List}
-use lib.ListN.{getD}
+use lib.ListN.{length, getD}
 
 -- r is the first place from `from` on whose key is k, or n
 pub record FirstFrom (keys : List ℕ) (n from k r : ℕ) : Type 0 where
@@ -17,6 +17,16 @@ pub record FirstFrom (keys : List ℕ) (n from k r : ℕ) : Type 0 where
 pub record StartOf (keys : List ℕ) (n a r : ℕ) : Type 0 where
   pub none : getD keys a 0 ≡ 0 → r ≡ n
   pub some : (getD keys a 0 ≡ 0 → ⊥) → FirstFrom keys n 0 (getD keys a 0) r
+
+-- the same for the first place of its key
+pub record OwnStart (keys : List ℕ) (n a r : ℕ) : Type 0 where
+  pub none : getD keys a 0 ≡ 0 → r ≡ n
+  pub some : (getD keys a 0 ≡ 0 → ⊥) → r ≡ a
+
+-- where each row starts is known of the places whose key no place from `from` on has before them
+pub record Started (keys : List ℕ) (n from : ℕ) (starts : List ℕ) : Type 0 where
+  pub long : length starts ≡ 256
+  pub at : (a : ℕ) → a < n → ((i : ℕ) → from ≤ i → i < a → getD keys i 0 ≡ getD keys a 0 → ⊥) → StartOf keys n a (getD starts a 0)
 
 -- where each row starts, and where it goes on from each place
 pub record Visited (keys : List ℕ) (n : ℕ) (starts nexts : List ℕ) : Type 0 where

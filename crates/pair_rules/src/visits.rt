@@ -3,7 +3,7 @@ ghost use mathlib.Core.Path.{_≡_};
 ghost use Prim.Native.Nat.{ℕ, _<_, _≤_};
 ghost use lib.ListN.{getD, replicate};
 ghost use Rattle.pair_rules.specs.Tests.{blank};
-ghost use Rattle.pair_rules.specs.Visits.{FirstFrom, StartOf, Visited};
+ghost use Rattle.pair_rules.specs.Visits.{FirstFrom, OwnStart, Started, Visited};
 
 // Where the row of each place starts, and where a row goes on from each place.
 pub(crate) struct Visits {
@@ -26,27 +26,41 @@ fn first_from(keys: &[u16; 256], n: usize, from: usize, k: u16) -> usize
     n
 }
 
-// Of the key 0 there is nothing to look at.
-fn start_of(keys: &[u16; 256], n: usize, a: usize) -> usize
+// Where the row of a place starts if no place before it has its key: of the key 0 there is nothing to look at.
+fn own_start(keys: &[u16; 256], n: usize, a: usize) -> usize
     requires { ⌜ (a < n) × (n ≤ 256) ⌝ }
-    ensures { λ r. ⌜ StartOf (now (keys .entry)) n a r ⌝ }
+    ensures { λ r. ⌜ OwnStart (now (keys .entry)) n a r ⌝ }
 {
-    let k = keys[a];
-    if k == 0 {
+    if keys[a] == 0 {
         return n;
     }
-    first_from(keys, n, 0, k)
+    a
 }
 
+fn own_starts(keys: &[u16; 256], n: usize) -> [u16; 256]
+    requires { ⌜ n ≤ 256 ⌝ }
+    ensures { λ r. ⌜ Started (now (keys .entry)) n 0 r ⌝ }
+{
+    let mut starts = [0u16; 256];
+    for a in 0..n {
+        starts[a] = own_start(keys, n, a) as u16;
+    }
+    starts
+}
+
+// The next place of a key has the same start.
 pub(crate) fn visits_of(keys: &[u16; 256], n: usize) -> Visits
     requires { ⌜ n ≤ 256 ⌝ }
     ensures { λ r. ⌜ Visited (now (keys .entry)) n (r .starts) (r .nexts) ⌝ }
 {
-    let mut starts = [0u16; 256];
+    let mut starts = own_starts(keys, n);
     let mut nexts = [0u16; 256];
     for a in 0..n {
-        starts[a] = start_of(keys, n, a) as u16;
-        nexts[a] = first_from(keys, n, a + 1, keys[a]) as u16;
+        let next = first_from(keys, n, a + 1, keys[a]);
+        nexts[a] = next as u16;
+        if next < n {
+            starts[next] = starts[a];
+        }
     }
     Visits { starts, nexts }
 }

@@ -1,13 +1,14 @@
--- `pair_rules::visits_of` meets its contract. Each place below the loop's number has its start and its next.
+-- `pair_rules::visits_of` meets its contract. Each place below the loop's number has its next, and has handed its start on to it.
 -- Assumes nothing.
-use Rattle.pair_rules.proofs.Visiting.{start-most}
 use mathlib.Core.Path.{_≡_, _∙_}
+use mathlib.Core.Logic.{⊎-elim}
 use mathlib.Core.List.{List}
 use Prim.Native.Nat.{ℕ, _≤_, _-_, _+_}
 use native.Mathlib.Omega.{arith}
 use lib.ListN.{length, getD, length-set}
-use Rattle.pair_rules.specs.Visits.{FirstFrom, StartOf}
+use Rattle.pair_rules.specs.Visits.{FirstFrom, Started}
 use Rattle.pair_rules.proofs.Filled.{Filled, filled-none, filled-more}
+use Rattle.pair_rules.proofs.Visiting.{started-next, started-last, started-all}
 use borrow.Author.Needs.{needs}
 use Rattle.pair_rules.proofs.visits.visits_of.Statement.{statement}
 use Rattle.pair_rules.proofs.visits.visits_of.Tie as tie
@@ -16,25 +17,16 @@ abbrev nextOf : List ℕ → ℕ → ℕ → ℕ → Type 0
 nextOf keys n i r = FirstFrom keys n (i + 1) (getD keys i 0) r
 
 abbrev Inv-loop : tie.InvT-loop
-Inv-loop keys n starts₀ nexts₀ a₀ starts nexts a = (a ≤ n) × (length starts ≡ 256) × (length nexts ≡ 256) × Filled (StartOf keys n) a starts × Filled (nextOf keys n) a nexts
+Inv-loop keys n starts₀ nexts₀ a₀ starts nexts a = (a ≤ n) × (length nexts ≡ 256) × Started keys n a starts × Filled (nextOf keys n) a nexts
 
 abbrev μ-loop : tie.MeasureT-loop
 μ-loop keys n starts₀ nexts₀ a₀ starts nexts a = n - a
 
+own-starts-requires : tie.Need-own-starts-requires Inv-loop μ-loop
+own-starts-requires c κs = search needs
+
 loop-holds : tie.Need-loop-holds Inv-loop μ-loop
-loop-holds c = (omega arith, search needs, search needs, filled-none _ _, filled-none _ _)
-
-start-of-requires : tie.Need-start-of-requires Inv-loop μ-loop
-start-of-requires c κs = search needs
-
-cast-starts : tie.Need-cast-starts Inv-loop μ-loop
-cast-starts c = record { fits = omega (arith, start-most (c .start-of .ensures)) }
-
-mul-starts : tie.Need-mul-starts Inv-loop μ-loop
-mul-starts c = search needs
-
-array-write-starts : tie.Need-array-write-starts Inv-loop μ-loop
-array-write-starts c = search needs
+loop-holds c = (omega arith, search needs, c .own-starts .ensures, filled-none _ _)
 
 add-first-from : tie.Need-add-first-from Inv-loop μ-loop
 add-first-from c = search needs
@@ -57,6 +49,18 @@ mul-nexts c = search needs
 array-write-nexts : tie.Need-array-write-nexts Inv-loop μ-loop
 array-write-nexts c = search needs
 
+mul-starts : tie.Need-mul-starts Inv-loop μ-loop
+mul-starts c = search needs
+
+array-read-starts : tie.Need-array-read-starts Inv-loop μ-loop
+array-read-starts c = search needs
+
+mul-starts-2 : tie.Need-mul-starts-2 Inv-loop μ-loop
+mul-starts-2 c = search needs
+
+array-write-starts : tie.Need-array-write-starts Inv-loop μ-loop
+array-write-starts c = search needs
+
 add-a : tie.Need-add-a Inv-loop μ-loop
 add-a c = search needs
 
@@ -64,10 +68,15 @@ loop-less : tie.Need-loop-less Inv-loop μ-loop
 loop-less c = search needs
 
 loop-again : tie.Need-loop-again Inv-loop μ-loop
-loop-again c = (omega arith, length-set (c .before .before .before .before .loop .starts) (c .before .before .before .before .loop .a) (c .before .before .start-of .result) ∙ c .before .before .before .before .loop .inv .1, length-set (c .before .before .before .before .loop .nexts) (c .before .before .before .before .loop .a) (c .first-from .result) ∙ c .before .before .before .before .loop .inv .2, filled-more (StartOf (c .before .before .before .before .before .args .keys .now) (c .before .before .before .before .before .args .n)) (c .before .before .before .before .loop .a) (c .before .before .start-of .result) (c .before .before .before .before .loop .starts) (omega arith) (c .before .before .start-of .ensures) (c .before .before .before .before .loop .inv .3), filled-more (nextOf (c .before .before .before .before .before .args .keys .now) (c .before .before .before .before .before .args .n)) (c .before .before .before .before .loop .a) (c .first-from .result) (c .before .before .before .before .loop .nexts) (omega arith) (c .first-from .ensures) (c .before .before .before .before .loop .inv .4))
+loop-again c = (
+  omega arith,
+  length-set (c .before .before .before .before .loop .nexts) (c .before .before .before .before .loop .a) (c .before .first-from .result) ∙ c .before .before .before .before .loop .inv .1,
+  ⊎-elim (λ w. rw (w .1) (started-next (c .before .before .before .loop-test .taken) (omega arith) (c .before .first-from .ensures) (c .before .before .before .before .loop .inv .2) (w .0 .taken))) (λ w. rw (w .1) (started-last (c .before .before .before .loop-test .taken) (omega arith) (c .before .first-from .ensures) (c .before .before .before .before .loop .inv .2) (w .0 .left))) (c .if1 .came),
+  filled-more (nextOf (c .before .before .before .before .before .before .args .keys .now) (c .before .before .before .before .before .before .args .n)) _ _ _ (omega arith) (c .before .first-from .ensures) (c .before .before .before .before .loop .inv .3),
+)
 
 returns : tie.Need-returns Inv-loop μ-loop
-returns c = record { start = λ a h. c .before .loop .inv .3 .at a (omega arith); next = λ a h. c .before .loop .inv .4 .at a (omega arith) }
+returns c = record { start = started-all (c .loop-test .left) (c .before .loop .inv .2); next = λ a h. c .before .loop .inv .3 .at a (omega arith) }
 
 pub visits-of-spec : {M : Type 1} → statement M
 visits-of-spec =
@@ -75,11 +84,8 @@ visits-of-spec =
     (tie.spec
     Inv-loop
     μ-loop
+    own-starts-requires
     loop-holds
-    start-of-requires
-    cast-starts
-    mul-starts
-    array-write-starts
     add-first-from
     mul-first-from
     element-copy-out-first-from
@@ -87,6 +93,10 @@ visits-of-spec =
     cast-nexts
     mul-nexts
     array-write-nexts
+    mul-starts
+    array-read-starts
+    mul-starts-2
+    array-write-starts
     add-a
     loop-less
     loop-again

@@ -32,8 +32,8 @@ pub(crate) fn first_pair(
     let mut found = Found::Nothing;
     'search: for a in 0..n {
         let mut b = wide(v.starts[a]);
+        let x = methods.at[a];
         while b < n {
-            let x = methods.at[a];
             let y = methods.at[b];
             if crate::rule::breaks(rule, homes, doms, supers, apart, above, a, b, x, y) {
                 found = Found::At(a, b);

@@ -10,7 +10,7 @@ use mathlib.Core.Path.{_≡_, refl, sym, ap, _∙_, subst}
 use mathlib.Core.Bool.{Bool, true, false, not, cond}
 use mathlib.Core.Option.{Option, none, some}
 use mathlib.Core.List.{List}
-use lib.Dec.{T, T-not, eqb, eqb→eq}
+use lib.Dec.{T, T-not, not-T, eqb, eqb→eq}
 use borrow.Author.Tests.{ne-eqb}
 use lib.Bits.{bitOr}
 use lib.ListN.{length, getD, take}
@@ -19,7 +19,7 @@ use Rattle.meaning.specs.Tables.{Package, classAt, supersOf}
 use Rattle.meaning.specs.Trust.{Dominated, Trusts, Suspicious, Subtype}
 use Rattle.meaning.specs.Good.{GoodClass}
 use Rattle.meaning.specs.Tests.{subtype, suspicious, trusts, apartAbove, breaks21, breaks22}
-use Rattle.meaning.proofs.Bools.{both, or-left, false-fails, fails-false, passes-true, true-passes}
+use Rattle.meaning.proofs.Bools.{decides-test, stable, both, or-left, false-fails, fails-false, passes-true, true-passes}
 use Rattle.meaning.proofs.Lists.{any-complete, anyBelow-sound, anyBelow-complete, getD-in}
 use Rattle.meaning.proofs.Trust.{decides-trusts, decides-suspicious, subtype-sound, has-supers}
 use Rattle.meaning.proofs.Search.{firstPlace-sound}
@@ -131,10 +131,6 @@ row-down ws s c b h w = on (decLt b 64)
 
 -- ---- the classes of tables that are held
 
-not-not : (b : Bool) → (T (not b) → ⊥) → T b
-not-not true f = tt
-not-not false f = f tt
-
 module _ (t : Tables) (held : Held t) {homes doms supers apart above : List ℕ} (w : Known (view t) homes doms supers apart above) where
   abbrev P : Package
   P = view t
@@ -164,13 +160,17 @@ module _ (t : Tables) (held : Held t) {homes doms supers apart above : List ℕ}
   module _ (rule : ℕ) (e : clears rule cs (t .classes .n) homes doms apart ≡ true) where
     step-holds : (c s : ℕ) → In s (supersOf P c) → T (cond (eqb rule 21) (trustsBy homes doms s c) (within apart s c))
     unfolding clears failsAt classFails stepFails supersOf
-    step-holds c s m = not-not (cond (eqb rule 21) (trustsBy homes doms s c) (within apart s c)) (λ u.
+    step-holds c s m =
+        stable (decides-test holds) (λ n.
         let f = stepFails rule homes doms apart c in
         let h = has-supers P m in
-        let x : T (any f (take (length (supersOf P c)) (packClass (classAt P c) .supers))) = rw (pad-take 0 4 (supersOf P c) (length (supersOf P c)) refl) (any-complete f m u) in
+        let x : T (any f (take (length (supersOf P c)) (packClass (classAt P c) .supers))) = rw (pad-take 0 4 (supersOf P c) (length (supersOf P c)) refl) (any-complete f m (not-T holds n)) in
         let y : T (failsAt rule cs homes doms apart c) = rw (class-is c h) x in
         T-not (anyBelow (t .classes .n) (failsAt rule cs homes doms apart)) (both (not (eqb rule 10)) _ (true-passes _ e) .1)
         (anyBelow-complete (failsAt rule cs homes doms apart) (t .classes .n) c (rw (held-classes t held .count) h) y))
+      where
+        holds : Bool
+        holds = cond (eqb rule 21) (trustsBy homes doms s c) (within apart s c)
 
   pub cleared : (rule : ℕ) → ofMethods rule ≡ false → clears rule cs (t .classes .n) homes doms apart ≡ true → foundBy rule P ≡ none
   unfolding foundBy sizeOf breaksOf ofMethods clears

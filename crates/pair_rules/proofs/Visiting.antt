@@ -15,13 +15,6 @@ use Rattle.meaning.proofs.Search.{ClearRow, row-none, row-more}
 use Rattle.pair_rules.specs.Visits.{FirstFrom, StartOf, OwnStart, Started, Visited, Covers}
 use Rattle.pair_rules.proofs.Filled.{Filled}
 
-pub own-most : {keys : List ℕ} {n a r : ℕ} → a < n → OwnStart keys n a r → r ≤ n
-own-most {keys} {n} {a} {r} h w = on (ℕ-discrete (getD keys a 0) 0)
-  where
-    on : Dec (getD keys a 0 ≡ 0) → r ≤ n
-    on (yes e) = omega (arith, w .none e)
-    on (no f) = omega (arith, w .some f)
-
 pub start-most : {keys : List ℕ} {n a r : ℕ} → StartOf keys n a r → r ≤ n
 start-most {keys} {n} {a} {r} w = on (ℕ-discrete (getD keys a 0) 0)
   where

@@ -20,6 +20,7 @@ pub record StartOf (keys : List ℕ) (n a r : ℕ) : Type 0 where
 
 -- the same for the first place of its key
 pub record OwnStart (keys : List ℕ) (n a r : ℕ) : Type 0 where
+  pub most : r ≤ n
   pub none : getD keys a 0 ≡ 0 → r ≡ n
   pub some : (getD keys a 0 ≡ 0 → ⊥) → r ≡ a
 

@@ -6,7 +6,7 @@ ghost use Rattle.homes.specs.Homes.{Small};
 ghost use Rattle.pair_rules.specs.Rows.{Fits};
 ghost use Rattle.pair_rules.specs.Tests.{by10, oneSlotBy, differBy, by11, by12, by21, by22, overridesBy, by23, by24, by25};
 
-fn wide(x: u8) -> usize
+pub(crate) fn wide(x: u8) -> usize
     ensures { λ r. ⌜ r ≡ x ⌝ }
 {
     x as usize

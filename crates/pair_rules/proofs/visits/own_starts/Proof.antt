@@ -6,7 +6,7 @@ use native.Mathlib.Omega.{arith}
 use lib.ListN.{length, length-set}
 use Rattle.pair_rules.specs.Visits.{OwnStart}
 use Rattle.pair_rules.proofs.Filled.{Filled, filled-none, filled-more}
-use Rattle.pair_rules.proofs.Visiting.{own-most, own-started}
+use Rattle.pair_rules.proofs.Visiting.{own-started}
 use borrow.Author.Needs.{needs}
 use Rattle.pair_rules.proofs.visits.own_starts.Statement.{statement}
 use Rattle.pair_rules.proofs.visits.own_starts.Tie as tie
@@ -24,7 +24,7 @@ own-start-requires : tie.Need-own-start-requires Inv-loop μ-loop
 own-start-requires c κs = search needs
 
 cast-starts : tie.Need-cast-starts Inv-loop μ-loop
-cast-starts c = record { fits = omega (arith, own-most (c .before .loop-test .taken) (c .own-start .ensures)) }
+cast-starts c = record { fits = omega (arith, c .own-start .ensures .most) }
 
 mul-starts : tie.Need-mul-starts Inv-loop μ-loop
 mul-starts c = search needs

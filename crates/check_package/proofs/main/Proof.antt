@@ -1,52 +1,39 @@
+-- `check_package::main` meets its contract. What is written stands in the buffer.
+-- Assumes nothing.
 use mathlib.Core.Path.{sym}
 use lib.Seq.{length-take-le}
 use Rattle.programs.proofs.Printed.{in-buffer}
 use borrow.Author.Needs.{needs}
 use Rattle.check_package.proofs.main.Statement.{statement}
 use Rattle.check_package.proofs.main.Tie as tie
-use Rattle.check_package.proofs.main.Reads as reads
-use Rattle.check_package.proofs.main.Lts as lts
-use Rattle.io.proofs.read_full.Reads as read-full-reads
-use Rattle.io.proofs.write_all.Reads as write-all-reads
-use Rattle.programs.proofs.check_output.Reads as check-output-reads
 
--- src/main.rt:6:30
 slice-aggregate-read-full : tie.Need-slice-aggregate-read-full
 slice-aggregate-read-full c = search needs
 
--- src/main.rt:6:9
 read-full-requires : tie.Need-read-full-requires
 read-full-requires c κs = search needs
 
--- src/main.rt:7:36
 array-share-prefix-input : tie.Need-array-share-prefix-input
 array-share-prefix-input c = search needs
 
--- src/main.rt:7:36
 slice-aggregate-check-output : tie.Need-slice-aggregate-check-output
 slice-aggregate-check-output c = search needs
 
--- src/main.rt:7:49
 slice-aggregate-check-output-2 : tie.Need-slice-aggregate-check-output-2
 slice-aggregate-check-output-2 c = search needs
 
--- src/main.rt:7:9
 check-output-requires : tie.Need-check-output-requires
 check-output-requires c κs = search needs
 
--- src/main.rt:8:22
 array-share-prefix-out : tie.Need-array-share-prefix-out
 array-share-prefix-out c = in-buffer _ _ _ _ (c .before .check-output .ensures .0) (c .before .check-output .ensures .1)
 
--- src/main.rt:8:22
 slice-aggregate-write-all : tie.Need-slice-aggregate-write-all
 slice-aggregate-write-all c = sym (length-take-le _ _ (in-buffer _ _ _ _ (c .before .before .check-output .ensures .0) (c .before .before .check-output .ensures .1)))
 
--- src/main.rt:8:5
 write-all-requires : tie.Need-write-all-requires
 write-all-requires c κs = search needs
 
--- src/main.rt:3:1
 returns : tie.Need-returns
 returns c = search needs
 

@@ -1,6 +1,8 @@
-// Links the product's static library: target/staticlib/libdcc.a, which `rt staticlib dcc` writes.
+// Links the product's static library: libdcc.a of the folder DCC_LIB_DIR, or target/staticlib, where `rt staticlib dcc` writes it.
 fn main() {
-    println!("cargo:rustc-link-search=native=../target/staticlib");
+    println!("cargo:rerun-if-env-changed=DCC_LIB_DIR");
+    let folder = std::env::var("DCC_LIB_DIR").unwrap_or("../target/staticlib".to_string());
+    println!("cargo:rustc-link-search=native={folder}");
     println!("cargo:rustc-link-lib=static=dcc");
-    println!("cargo:rerun-if-changed=../target/staticlib/libdcc.a");
+    println!("cargo:rerun-if-changed={folder}/libdcc.a");
 }

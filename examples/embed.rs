@@ -41,9 +41,7 @@ mod dcc {
 
     pub fn run(package: &[u8], script: &[u8], out: &mut [u8]) -> Answer {
         // As above; and a `&mut` slice overlaps nothing else.
-        unpack(unsafe {
-            dcc_run(package.as_ptr(), package.len(), script.as_ptr(), script.len(), out.as_mut_ptr(), out.len())
-        })
+        unpack(unsafe { dcc_run(package.as_ptr(), package.len(), script.as_ptr(), script.len(), out.as_mut_ptr(), out.len()) })
     }
 }
 

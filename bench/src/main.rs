@@ -1,57 +1,37 @@
-// How fast the product checks, beside the second program, in one process and one run: times by rounds, the best of each, and their ratio.
-//   bench              the table
-//   bench one NAME WHO ROUNDS   one case by one of them, for an instruction count by callgrind
-use second::gen::special::special;
-use std::time::Instant;
+// How fast the product is beside the second program, in one process and one run.
+//   bench                            the tables
+//   bench one NAME product|second ROUNDS   one case by one of them, for an instruction count by callgrind
+//   bench names                      the cases' names
+mod callers;
+mod cases;
+mod tables;
+mod timing;
 
-extern "C" {
-    fn dcc_check(text: *const u8, len: usize) -> u64;
-}
+use callers::{Who, ROOM};
+use cases::{names, Case};
+use std::hint::black_box;
+use std::process::ExitCode;
 
-fn product(text: &[u8]) -> u64 {
-    // The function reads the text's bytes and keeps nothing.
-    unsafe { dcc_check(text.as_ptr(), text.len()) }
-}
-
-fn second(text: &[u8]) -> u64 {
-    let (number, first, other) = second::check(text);
-    number as u64 | (first as u64) << 16 | (other as u64) << 32
-}
-
-const CASES: [&str; 7] =
-    ["smallest", "largest-16", "largest-32", "largest-64", "largest", "largest-breaks-30", "refused-last-line"];
-
-/// The best time of one call, in nanoseconds, over rounds of calls.
-fn best(check: fn(&[u8]) -> u64, text: &[u8]) -> f64 {
-    let mut best = f64::MAX;
-    for _ in 0..200 {
-        let start = Instant::now();
-        for _ in 0..10 {
-            std::hint::black_box(check(std::hint::black_box(text)));
-        }
-        best = best.min(start.elapsed().as_nanos() as f64 / 10.0);
+fn one(words: &[String]) -> Option<()> {
+    let [name, who, rounds] = words else { return None };
+    let (case, who, rounds) = (Case::named(name)?, Who::named(who)?, rounds.parse::<usize>().ok()?);
+    let mut buffer = [0; ROOM];
+    for _ in 0..rounds {
+        black_box(who.answer(black_box(&case), &mut buffer));
     }
-    best
+    Some(())
 }
 
-fn table() {
-    println!("{:<20} {:>8} {:>14} {:>14} {:>8}", "package", "bytes", "product, us", "second, us", "ratio");
-    for name in CASES {
-        let text = special(name).expect("a special case");
-        assert_eq!(product(&text), second(&text), "{name}");
-        let (a, b) = (best(product, &text), best(second, &text));
-        println!("{:<20} {:>8} {:>14.2} {:>14.2} {:>8.2}", name, text.len(), a / 1000.0, b / 1000.0, a / b);
-    }
-}
-
-fn main() {
+fn main() -> ExitCode {
     let words: Vec<String> = std::env::args().skip(1).collect();
-    if words.is_empty() {
-        return table();
+    let done = match words.first().map(String::as_str) {
+        None => Some(tables::print()),
+        Some("names") => Some(names().for_each(|name| println!("{name}"))),
+        Some("one") => one(&words[1..]),
+        Some(_) => None,
+    };
+    if done.is_none() {
+        eprintln!("bench | bench one NAME product|second ROUNDS | bench names");
     }
-    let text = special(&words[1]).expect("a special case");
-    let check = if words[2] == "product" { product } else { second };
-    for _ in 0..words[3].parse::<usize>().expect("a number of rounds") {
-        std::hint::black_box(check(std::hint::black_box(&text)));
-    }
+    ExitCode::from(if done.is_some() { 0 } else { 2 })
 }

@@ -1,8 +1,8 @@
 /* Furlantecco for C: two functions over texts in memory. dcc_check says whether a package keeps the rules of discretionary capability
  * confinement; dcc_run takes a run text's steps over a package and writes what each domain then holds.
  *
- * `rt staticlib dcc` proves them and writes target/staticlib/libdcc.a (x86-64). examples/embed.c calls both; docs/NUMBERS.md explains
- * each answer.
+ * `rt staticlib dcc` proves them and writes target/staticlib/libdcc.a (x86-64; it needs memcpy and memset of the C library, and nothing
+ * else). examples/embed.c calls both; docs/NUMBERS.md explains each answer.
  *
  * Both functions
  * - answer every input: there is no text and no length that they must not be given, and no error beside the answer;
@@ -78,7 +78,7 @@ enum {
     DCC_BAD_GENERATION = 4,        /* line: the generation byte is not 02 */
     DCC_BAD_KIND = 5,              /* line: unknown or falling kind, second header, or a line after 07 */
     DCC_BAD_LENGTH = 6,            /* line: the length does not fit the kind and its count */
-    DCC_BAD_NUMBER = 7,            /* line: a number out of range, undeclared, or of the wrong static/instance kind; a count over its limit */
+    DCC_BAD_NUMBER = 7,            /* line: a number out of range, undeclared or of the wrong kind; a count over its limit */
     DCC_TOO_MANY = 8,              /* line: one frame too many of its kind */
     DCC_NO_END = 9,                /* lines + 1: no 07 before the end */
 

@@ -4,6 +4,7 @@ pub mod compare;
 pub mod confinement;
 pub mod gen;
 pub mod holdings;
+pub mod library;
 pub mod list;
 pub mod machine;
 pub mod package;

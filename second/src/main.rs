@@ -191,10 +191,8 @@ fn subjects(args: &[String]) -> Result<Vec<(&'static str, Subject)>, String> {
         subjects.push(("programs", Subject::Programs(programs)));
     }
     if args.iter().any(|arg| arg == "--library") {
-        if !product::CHECK_LINKED {
-            return Err("this build has no library: build with --features library and DCC_LIB_DIR".to_string());
-        }
-        subjects.push(("library", Subject::Library));
+        let library = product::linked().ok_or("this build has no library: build with --features library and DCC_LIB_DIR")?;
+        subjects.push(("library", Subject::Library(library)));
     }
     if let Some(wrong) = reading(args)? {
         subjects.push(("reading", Subject::Reading(wrong)));

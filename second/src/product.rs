@@ -38,34 +38,42 @@ fn printed(command: &[String], input: &[u8]) -> Vec<u8> {
     bytes
 }
 
-/// What `run` gives back: number, two places, and the length written.
-pub type RunAnswer = (u8, u16, u16, usize);
-
-/// `dcc_check` packs its answer as number | place << 16 | place << 32.
-pub fn unpack_check(word: u64) -> (u8, u16, u16) {
-    (word as u8, (word >> 16) as u16, (word >> 32) as u16)
+/// The library's two functions, as words packed by it: `pack` and `unpack` say how.
+#[derive(Clone, Copy)]
+pub struct Library {
+    pub check: fn(&[u8]) -> u64,
+    /// None for a library that has `dcc_check` alone.
+    pub run: Option<fn(&[u8], &[u8], &mut [u8]) -> u64>,
 }
 
-/// `dcc_run` packs its answer alike, with the length written on top: number | place << 16 | place << 32 | length << 48.
-pub fn unpack_run(word: u64) -> RunAnswer {
-    (word as u8, (word >> 16) as u16, (word >> 32) as u16, (word >> 48) as usize)
+/// Number, two places, and the length written, 16 bits each from the lowest; the length of a check is 0.
+pub type Unpacked = (u16, u16, u16, u16);
+
+pub fn unpack(word: u64) -> Unpacked {
+    (word as u16, (word >> 16) as u16, (word >> 32) as u16, (word >> 48) as u16)
 }
 
-/// Which of the library's functions are linked: a library may have `dcc_check` alone.
-pub const CHECK_LINKED: bool = cfg!(feature = "library-check");
-pub const RUN_LINKED: bool = cfg!(feature = "library");
+pub fn pack(number: u8, first: u16, second: u16, length: usize) -> u64 {
+    number as u64 | (first as u64) << 16 | (second as u64) << 32 | (length as u64) << 48
+}
 
+/// The library that this program is linked with, if it is.
 #[cfg(feature = "library-check")]
-pub fn check(text: &[u8]) -> (u8, u16, u16) {
+pub fn linked() -> Option<Library> {
     extern "C" {
         fn dcc_check(text: *const u8, len: usize) -> u64;
     }
     // The function reads the text's bytes and keeps nothing.
-    unpack_check(unsafe { dcc_check(text.as_ptr(), text.len()) })
+    Some(Library { check: |text| unsafe { dcc_check(text.as_ptr(), text.len()) }, run: linked_run() })
+}
+
+#[cfg(not(feature = "library-check"))]
+pub fn linked() -> Option<Library> {
+    None
 }
 
 #[cfg(feature = "library")]
-pub fn run(package: &[u8], script: &[u8], buffer: &mut [u8]) -> RunAnswer {
+fn linked_run() -> Option<fn(&[u8], &[u8], &mut [u8]) -> u64> {
     extern "C" {
         fn dcc_run(
             package: *const u8,
@@ -77,17 +85,12 @@ pub fn run(package: &[u8], script: &[u8], buffer: &mut [u8]) -> RunAnswer {
         ) -> u64;
     }
     // The function reads the two texts, writes into the buffer only, and keeps nothing.
-    unpack_run(unsafe {
-        dcc_run(package.as_ptr(), package.len(), script.as_ptr(), script.len(), buffer.as_mut_ptr(), buffer.len())
+    Some(|package, script, out| unsafe {
+        dcc_run(package.as_ptr(), package.len(), script.as_ptr(), script.len(), out.as_mut_ptr(), out.len())
     })
 }
 
-#[cfg(not(feature = "library-check"))]
-pub fn check(_: &[u8]) -> (u8, u16, u16) {
-    panic!("built without the library")
-}
-
-#[cfg(not(feature = "library"))]
-pub fn run(_: &[u8], _: &[u8], _: &mut [u8]) -> RunAnswer {
-    panic!("built without the library")
+#[cfg(all(feature = "library-check", not(feature = "library")))]
+fn linked_run() -> Option<fn(&[u8], &[u8], &mut [u8]) -> u64> {
+    None
 }

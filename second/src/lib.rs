@@ -2,6 +2,7 @@
 pub mod answer;
 pub mod compare;
 pub mod confinement;
+pub mod fuzzed;
 pub mod gen;
 pub mod holdings;
 pub mod library;

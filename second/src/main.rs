@@ -1,10 +1,12 @@
 // The command `second`: checks, runs, generates and compares.
 use second::compare::{examples, generated, Difference, Subject};
+use second::fuzzed::encoded;
 use second::gen::cases::{batch_line, case, output, Case, Program};
 use second::gen::special;
 use second::product::{self, Programs};
 use second::readings::{by_name, Only, Settled, Wrong, ALL};
 use std::io::{BufRead, BufWriter, Read, Write};
+use std::path::Path;
 use std::process::ExitCode;
 
 const USAGE: &str = "second check [--reading NAME]            a package from standard input
@@ -13,6 +15,7 @@ second batch [--reading NAME]            many cases: a line each, C or R, a spac
 second gen SEED COUNT                    cases in that form
 second gen --hist SEED COUNT             how often they give each answer
 second gen --special [NAME]              a fixed package or run, or their names
+second gen --fuzz FOLDER SEED COUNT      cases and the fixed ones as files to begin fuzzing with (fuzz/)
 second readings                          the wrong readings that --reading can switch on
 second time                              microseconds for the fixed packages and runs
 second compare WITH.. [OPTION..]         compares with the second program; on a difference, its smallest input is printed
@@ -110,6 +113,11 @@ fn generate(args: &[String]) -> Outcome {
             let (seed, count) = seed_and_count(&args[1..])?;
             print_histogram(seed, count);
         }
+        Some("--fuzz") => {
+            let folder = args.get(1).ok_or("gen --fuzz needs a folder")?;
+            let (seed, count) = seed_and_count(&args[2..])?;
+            write_fuzz_inputs(folder.as_ref(), seed, count).map_err(|error| format!("{folder}: {error}"))?;
+        }
         _ => {
             let (seed, count) = seed_and_count(args)?;
             let mut out = BufWriter::new(std::io::stdout().lock());
@@ -126,6 +134,14 @@ fn generate(args: &[String]) -> Outcome {
 fn seed_and_count(args: &[String]) -> Result<(u64, u64), String> {
     let parse = |at: usize| args.get(at).and_then(|value| value.parse().ok()).ok_or("gen needs a seed and a count".to_string());
     Ok((parse(0)?, parse(1)?))
+}
+
+fn write_fuzz_inputs(folder: &Path, seed: u64, count: u64) -> std::io::Result<()> {
+    let cases = (0..count).map(|number| case(seed, number)).chain(special::cases());
+    for (number, case) in cases.enumerate() {
+        std::fs::write(folder.join(format!("{seed}-{number}")), encoded(&case))?;
+    }
+    Ok(())
 }
 
 fn print_histogram(seed: u64, count: u64) {

@@ -163,7 +163,8 @@ fn frames_of(input: &[u8]) -> Option<Vec<Vec<u8>>> {
     input.split_inclusive(|&byte| byte == b'\n').map(frame_of).collect()
 }
 
-fn frame_of(line: &[u8]) -> Option<Vec<u8>> {
+/// The bytes of a line of digits.
+pub fn frame_of(line: &[u8]) -> Option<Vec<u8>> {
     let digits = line.strip_suffix(b"\n")?;
     if digits.is_empty() || digits.len() % 2 != 0 {
         return None;

@@ -1,4 +1,5 @@
 // The generator: the same cases for the same seed, and every answer number but 65 often enough.
+use second::fuzzed::{decoded, encoded};
 use second::gen::cases::{case, output};
 use second::gen::special::{cases, special};
 use second::readings::Settled;
@@ -21,6 +22,15 @@ fn the_same_seed_gives_the_same_cases() {
         assert_eq!(case(9, number), case(9, number));
     }
     assert!((0..300).any(|number| case(9, number) != case(10, number)));
+}
+
+#[test]
+fn fuzzed_bytes_are_decoded_as_the_case_they_came_from() {
+    for case in (0..2_000).map(|number| case(4, number)).chain(cases()) {
+        assert_eq!(decoded(&encoded(&case)), case);
+    }
+    assert_eq!(decoded(b"").input, b"");
+    assert_eq!(decoded(b"\x03\x02\x10\x00\xFF\x2F").input, b"1000\n2F\n");
 }
 
 #[test]

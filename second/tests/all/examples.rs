@@ -1,4 +1,4 @@
-// The files of examples/: each prints what its .expected file says, and every answer number but 65 occurs.
+// The files of examples/: each prints what its .expected file says, and every answer number but 65 occurs. docs/NUMBERS.md names one for each.
 use second::compare::examples;
 use second::gen::cases::output;
 use second::readings::Settled;
@@ -24,4 +24,21 @@ fn examples_print_what_they_say() {
         numbers.insert(u8::from_str_radix(std::str::from_utf8(&printed[2..4]).expect("digits"), 16).expect("digits"));
     }
     assert_eq!(numbers, BTreeSet::from(NUMBERS));
+}
+
+/// A row of docs/NUMBERS.md begins with a number and the digits that are printed for it, and ends with its examples.
+#[test]
+fn every_number_is_explained_with_an_example_that_gives_it() {
+    let root = Path::new(env!("CARGO_MANIFEST_DIR")).join("..");
+    let paper = std::fs::read_to_string(root.join("docs/NUMBERS.md")).expect("docs/NUMBERS.md");
+    for number in NUMBERS {
+        let row = paper.lines().find(|line| line.starts_with(&format!("| {number} | {number:02X} |")));
+        let row = row.unwrap_or_else(|| panic!("{number} has no row in docs/NUMBERS.md"));
+        let named = row.trim_end_matches(" |").rsplit(" | ").next().expect("the last column");
+        for name in named.split(", ") {
+            let expected = root.join("examples").join(name).with_extension("expected");
+            let printed = std::fs::read_to_string(&expected).unwrap_or_else(|error| panic!("{number}, {name}: {error}"));
+            assert!(printed.starts_with(&format!("2E{number:02X}")), "{name} does not give {number}");
+        }
+    }
 }

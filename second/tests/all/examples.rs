@@ -42,3 +42,15 @@ fn every_number_is_explained_with_an_example_that_gives_it() {
         }
     }
 }
+
+#[test]
+fn every_number_has_a_name_in_the_header() {
+    let header = Path::new(env!("CARGO_MANIFEST_DIR")).join("../include/dcc.h");
+    let header = std::fs::read_to_string(header).expect("include/dcc.h");
+    let numbers = header.split("/* The numbers.").nth(1).expect("the part with the numbers");
+    let named = |line: &str| -> Option<u8> {
+        line.trim().strip_prefix("DCC_")?.split(" = ").nth(1)?.split([',', ' ']).next()?.parse().ok()
+    };
+    let named: Vec<u8> = numbers.lines().filter_map(named).collect();
+    assert_eq!(named, [&NUMBERS[..], &[65]].concat());
+}

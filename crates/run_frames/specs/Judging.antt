@@ -20,12 +20,10 @@ use Rattle.run_frames.specs.declared.step.Named.{Named}
 
 -- with nm methods
 unfoldable pub judgeEntry : ℕ → Frame → ℕ
-unfolding ask
 judgeEntry nm f = ask ((eqb (f .n) 2 && eqb (at f 0) 0x10) && below nm (at f 1)) 53 0
 
 -- 58 before 56 before 57 before 60
 unfoldable pub judgeBy : Bool → Bool → Bool → Bool → ℕ
-unfolding ask
 judgeBy room fits declared typed = ask room 58 (ask fits 56 (ask declared 57 (ask typed 60 0)))
 
 -- ---- the start

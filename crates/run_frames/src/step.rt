@@ -100,5 +100,6 @@ pub fn judge_step(d: Named, n: usize, f: Frame) -> u8
 pub fn step_of(f: Frame, line: u16) -> Step
     ensures { λ r. ⌜ r ≡ placedIn f line ⌝ }
 {
-    Step { line: line, b: f.b }
+    let b = f.b;
+    Step { line: line, b: b }
 }

@@ -1,0 +1,15 @@
+use mathlib.Core.Path.{refl}
+use Rattle.runs.specs.Script.{isReference}
+use borrow.Author.Needs.{needs}
+use Rattle.run_frames.proofs.tests.is_reference.Statement.{statement}
+use Rattle.run_frames.proofs.tests.is_reference.Tie as tie
+use Rattle.run_frames.proofs.tests.is_reference.Reads as reads
+use Rattle.run_frames.proofs.tests.is_reference.Lts as lts
+
+-- src/tests.rt:33:1
+returns : tie.Need-returns
+unfolding isReference
+returns c = refl
+
+pub is-reference-spec : {M : Type 1} → statement M
+is-reference-spec = tie.close (tie.spec returns)

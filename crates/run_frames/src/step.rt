@@ -73,9 +73,7 @@ fn is_named(d: Named, f: Frame) -> bool
         return is_static(d.fields, a, d.field, 1) & tests::is_reference(b);
     }
     if (k == 0x25) | (k == 0x26) {
-        return is_static(d.fields, a, d.field, 0)
-            & tests::is_reference(b)
-            & tests::is_reference(c);
+        return is_static(d.fields, a, d.field, 0) & tests::is_reference(b) & tests::is_reference(c);
     }
     if k == 0x27 {
         return is_static(d.methods, a, d.called, 1) & arguments(f, 2, d.k);

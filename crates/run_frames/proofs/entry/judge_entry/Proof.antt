@@ -1,3 +1,5 @@
+-- `judge_entry` puts its tests together.
+-- Assumes nothing.
 use mathlib.Core.Path.{sym}
 use mathlib.Core.Path.{refl}
 use borrow.Author.Tests.{not-true, not-false}
@@ -6,28 +8,20 @@ use Rattle.run_frames.specs.Judging.{judgeEntry}
 use borrow.Author.Needs.{needs}
 use Rattle.run_frames.proofs.entry.judge_entry.Statement.{statement}
 use Rattle.run_frames.proofs.entry.judge_entry.Tie as tie
-use Rattle.run_frames.proofs.entry.judge_entry.Reads as reads
-use Rattle.run_frames.proofs.entry.judge_entry.Lts as lts
-use Rattle.run_frames.proofs.tests.below.Reads as below-reads
 
--- src/entry.rt:11:31
 element-copy-out-entry : tie.Need-element-copy-out-entry
 element-copy-out-entry c = search needs
 
--- src/entry.rt:11:62
 element-copy-out-below : tie.Need-element-copy-out-below
 element-copy-out-below c = search needs
 
--- src/entry.rt:11:49
 below-requires : tie.Need-below-requires
 below-requires c κs = search needs
 
--- src/entry.rt:13:9
 returns : tie.Need-returns
 unfolding judgeEntry
 returns c = rw (sym (c .before .below .ensures)) (stop _ _ (not-true _ (c .if1 .taken)))
 
--- src/entry.rt:8:1
 returns-2 : tie.Need-returns-2
 unfolding judgeEntry
 returns-2 c = rw (sym (c .before .below .ensures)) (skip _ _ (not-false _ (c .if1 .left)) refl)

@@ -1,3 +1,5 @@
+-- `all_references` is `all` over the slice: what is left of the slice gives the same answer.
+-- Assumes nothing.
 use Prim.Native.Nat.{_-_}
 use native.Mathlib.Omega.{arith}
 use mathlib.Core.Path.{_≡_, refl, sym, _∙_}
@@ -10,9 +12,6 @@ use Rattle.run_frames.proofs.Looks.{all-step, all-done}
 use borrow.Author.Needs.{needs}
 use Rattle.run_frames.proofs.step.all_references.Statement.{statement}
 use Rattle.run_frames.proofs.step.all_references.Tie as tie
-use Rattle.run_frames.proofs.step.all_references.Reads as reads
-use Rattle.run_frames.proofs.step.all_references.Lts as lts
-use Rattle.run_frames.proofs.tests.is_reference.Reads as is-reference-reads
 
 abbrev Inv-loop : tie.InvT-loop
 Inv-loop from to f i₀ i = all isReference (slice i to (f .b)) ≡ all isReference (slice from to (f .b))
@@ -20,37 +19,40 @@ Inv-loop from to f i₀ i = all isReference (slice i to (f .b)) ≡ all isRefere
 abbrev μ-loop : tie.MeasureT-loop
 μ-loop from to f i₀ i = to - i
 
--- src/step.rt:37:5
 loop-holds : tie.Need-loop-holds Inv-loop μ-loop
 loop-holds c = refl
 
--- src/step.rt:38:33
 element-copy-out-is-reference : tie.Need-element-copy-out-is-reference Inv-loop μ-loop
 element-copy-out-is-reference c = search needs
 
--- src/step.rt:38:13
 is-reference-requires : tie.Need-is-reference-requires Inv-loop μ-loop
 is-reference-requires c κs = search needs
 
--- src/step.rt:39:13
 returns : tie.Need-returns Inv-loop μ-loop
-returns c = let s = c .before .before .before .before in let a = s .before .args in let l : length (a .t1 .b) ≡ 16 = search needs in sym (sym (s .loop .inv) ∙ all-step isReference (s .loop .i) (a .to) (a .t1 .b) (omega arith) (omega arith) ∙ rw (sym (c .before .is-reference .ensures) ∙ not-true _ (c .if1 .taken)))
+returns c =
+    let s = c .before .before .before .before in
+    let a = s .before .args in
+    let l : length (a .t1 .b) ≡ 16 = search needs in
+    sym (sym (s .loop .inv) ∙ all-step isReference (s .loop .i) (a .to) (a .t1 .b) (omega arith) (omega arith) ∙ rw (sym (c .before .is-reference .ensures) ∙ not-true _ (c .if1 .taken)))
 
--- src/step.rt:41:9
 add-i : tie.Need-add-i Inv-loop μ-loop
 add-i c = search needs
 
--- src/step.rt:37:5
 loop-less : tie.Need-loop-less Inv-loop μ-loop
 loop-less c = search needs
 
--- src/step.rt:37:5
 loop-again : tie.Need-loop-again Inv-loop μ-loop
-loop-again c = let s = c .before .before .before .before in let a = s .before .args in let l : length (a .t1 .b) ≡ 16 = search needs in sym (rw (sym (c .before .is-reference .ensures) ∙ not-false _ (c .if1 .left)) at (all-step isReference (s .loop .i) (a .to) (a .t1 .b) (omega arith) (omega arith))) ∙ s .loop .inv
+loop-again c =
+    let s = c .before .before .before .before in
+    let a = s .before .args in
+    let l : length (a .t1 .b) ≡ 16 = search needs in
+    sym (rw (sym (c .before .is-reference .ensures) ∙ not-false _ (c .if1 .left)) at (all-step isReference (s .loop .i) (a .to) (a .t1 .b) (omega arith) (omega arith))) ∙ s .loop .inv
 
--- src/step.rt:32:1
 returns-2 : tie.Need-returns-2 Inv-loop μ-loop
-returns-2 c = let s = c .before in let a = s .before .args in sym (sym (s .loop .inv) ∙ all-done isReference (s .loop .i) (a .to) (a .t1 .b) (omega arith))
+returns-2 c =
+    let s = c .before in
+    let a = s .before .args in
+    sym (sym (s .loop .inv) ∙ all-done isReference (s .loop .i) (a .to) (a .t1 .b) (omega arith))
 
 pub all-references-spec : {M : Type 1} → statement M
 all-references-spec =

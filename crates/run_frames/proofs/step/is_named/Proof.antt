@@ -1,109 +1,82 @@
+-- `is_named` goes by the kind, as the definition does.
+-- Assumes nothing.
 use borrow.Author.Tests.{eq-eqb, ne-eqb}
 use Rattle.run_frames.specs.Judging.{namedIn}
 use borrow.Author.Needs.{needs}
 use Rattle.run_frames.proofs.step.is_named.Statement.{statement}
 use Rattle.run_frames.proofs.step.is_named.Tie as tie
-use Rattle.run_frames.proofs.step.is_named.Reads as reads
-use Rattle.run_frames.proofs.step.is_named.Lts as lts
-use Rattle.run_frames.proofs.step.arguments.Reads as arguments-reads
-use Rattle.run_frames.proofs.step.is_static.Reads as is-static-reads
-use Rattle.run_frames.proofs.tests.below.Reads as below-reads
-use Rattle.run_frames.proofs.tests.is_reference.Reads as is-reference-reads
 
--- src/step.rt:65:13
 element-copy-out-k : tie.Need-element-copy-out-k
 element-copy-out-k c = search needs
 
--- src/step.rt:66:13
 element-copy-out-a : tie.Need-element-copy-out-a
 element-copy-out-a c = search needs
 
--- src/step.rt:67:13
 element-copy-out-b : tie.Need-element-copy-out-b
 element-copy-out-b c = search needs
 
--- src/step.rt:68:13
 element-copy-out-c : tie.Need-element-copy-out-c
 element-copy-out-c c = search needs
 
--- src/step.rt:70:16
 is-reference-requires : tie.Need-is-reference-requires
 is-reference-requires c κs = search needs
 
--- src/step.rt:70:41
 below-requires : tie.Need-below-requires
 below-requires c κs = search needs
 
--- src/step.rt:70:9
 returns : tie.Need-returns
 unfolding namedIn
 returns c = rw (c .before .before .if1 .taken, c .before .is-reference .ensures, c .below .ensures)
 
--- src/step.rt:73:16
 is-static-requires : tie.Need-is-static-requires
 is-static-requires c κs = search needs
 
--- src/step.rt:73:53
 is-reference-requires-2 : tie.Need-is-reference-requires-2
 is-reference-requires-2 c κs = search needs
 
--- src/step.rt:73:9
 returns-2 : tie.Need-returns-2
 unfolding namedIn
 returns-2 c = rw (c .before .before .before .if1 .left, c .before .before .if2 .taken, c .before .is-static .ensures, c .is-reference2 .ensures)
 
--- src/step.rt:76:16
 is-static-requires-2 : tie.Need-is-static-requires-2
 is-static-requires-2 c κs = search needs
 
--- src/step.rt:77:15
 is-reference-requires-3 : tie.Need-is-reference-requires-3
 is-reference-requires-3 c κs = search needs
 
--- src/step.rt:78:15
 is-reference-requires-4 : tie.Need-is-reference-requires-4
 is-reference-requires-4 c κs = search needs
 
--- src/step.rt:76:9
 returns-3 : tie.Need-returns-3
 unfolding namedIn
 returns-3 c = rw (c .before .before .before .before .before .if1 .left, c .before .before .before .before .if2 .left, c .before .before .before .if3 .taken, c .before .before .is-static2 .ensures, c .before .is-reference3 .ensures, c .is-reference4 .ensures)
 
--- src/step.rt:81:16
 is-static-requires-3 : tie.Need-is-static-requires-3
 is-static-requires-3 c κs = search needs
 
--- src/step.rt:81:55
 arguments-requires : tie.Need-arguments-requires
 arguments-requires c κs = search needs
 
--- src/step.rt:81:9
 returns-4 : tie.Need-returns-4
 unfolding namedIn
 returns-4 c = rw (c .before .before .before .before .before .if1 .left, c .before .before .before .before .if2 .left, c .before .before .before .if3 .left, eq-eqb _ _ (c .before .before .if4 .taken), c .before .is-static3 .ensures, c .arguments .ensures)
 
--- src/step.rt:84:16
 is-static-requires-4 : tie.Need-is-static-requires-4
 is-static-requires-4 c κs = search needs
 
--- src/step.rt:85:15
 is-static-requires-5 : tie.Need-is-static-requires-5
 is-static-requires-5 c κs = search needs
 
--- src/step.rt:86:15
 is-reference-requires-5 : tie.Need-is-reference-requires-5
 is-reference-requires-5 c κs = search needs
 
--- src/step.rt:87:15
 arguments-requires-2 : tie.Need-arguments-requires-2
 arguments-requires-2 c κs = search needs
 
--- src/step.rt:84:9
 returns-5 : tie.Need-returns-5
 unfolding namedIn
 returns-5 c = rw (c .before .before .before .before .before .before .before .before .if1 .left, c .before .before .before .before .before .before .before .if2 .left, c .before .before .before .before .before .before .if3 .left, ne-eqb _ _ (c .before .before .before .before .before .if4 .left), eq-eqb _ _ (c .before .before .before .before .if5 .taken), c .before .before .before .is-static4 .ensures, c .before .before .is-static5 .ensures, c .before .is-reference5 .ensures, c .arguments2 .ensures)
 
--- src/step.rt:62:1
 returns-6 : tie.Need-returns-6
 unfolding namedIn
 returns-6 c = rw (c .before .before .before .before .if1 .left, c .before .before .before .if2 .left, c .before .before .if3 .left, ne-eqb _ _ (c .before .if4 .left), ne-eqb _ _ (c .if5 .left))

@@ -1,12 +1,11 @@
+-- `is_reference` is the definition.
+-- Assumes nothing.
 use mathlib.Core.Path.{refl}
 use Rattle.runs.specs.Script.{isReference}
 use borrow.Author.Needs.{needs}
 use Rattle.run_frames.proofs.tests.is_reference.Statement.{statement}
 use Rattle.run_frames.proofs.tests.is_reference.Tie as tie
-use Rattle.run_frames.proofs.tests.is_reference.Reads as reads
-use Rattle.run_frames.proofs.tests.is_reference.Lts as lts
 
--- src/tests.rt:33:1
 returns : tie.Need-returns
 unfolding isReference
 returns c = refl

@@ -1,1 +1,4 @@
 pub mod Looks
+pub mod Pools
+pub mod Asked
+pub mod Judged

@@ -2,3 +2,4 @@ pub mod Looks
 pub mod Pools
 pub mod Asked
 pub mod Judged
+pub mod Named

@@ -1,10 +1,11 @@
 -- The pool of a reader, as the array of classes that the code has: it has the same objects, and one object more is one store.
 -- Assumes nothing.
-use Prim.Native.Nat.{ℕ, _≤_, _<_}
+use Prim.Native.Nat.{ℕ, _<_}
 use native.Mathlib.Decide.{ℕ-discrete, decLt}
 use native.Mathlib.Omega.{arith}
 use mathlib.Core.Path.{_≡_, refl, sym, ap, subst, _∙_}
-use mathlib.Core.Bool.{Bool, true, false, _&&_, not}
+use mathlib.Core.Logic.{_⊎_, inl, inr}
+use mathlib.Core.Bool.{false, _&&_, not}
 use mathlib.Core.List.{List, [], _∷_, _++_, List·Memᴰ·not-nil}
 use lib.Dec.{eqb}
 use lib.ListN.{getD, set, replicate, List·getD-eq-default}
@@ -57,3 +58,27 @@ has-none =
       plain = record { once = λ o o′ m n e. absurd (List·Memᴰ·not-nil m); real = λ o m e. absurd (List·Memᴰ·not-nil m) };
       small = λ o m. absurd (List·Memᴰ·not-nil m);
     }
+
+-- one object more, with a new number
+module _ {os : List Object} {pool : List ℕ} (h : Has os pool) (r c : ℕ) (fresh : inPool os r ≡ false) (small : r < 256) (real : c ≡ 0xFF → ⊥) where
+  pub has-new : Has (os ++ (object r c ∷ [])) (set pool r c)
+  has-new =
+      let j = joins-last (object r c) os in
+      record {
+        packed = ap (λ (cs : List ℕ). set cs r c) (h .packed) ∙ pool-more os r c small fresh;
+        plain =
+            record {
+              once = λ o o′ m m′. one o o′ (j .only o m) (j .only o′ m′);
+              real = joins-each j (λ (o : Object). o .class ≡ 0xFF → ⊥) real (h .plain .real);
+            };
+        small = joins-each j (λ (o : Object). o .ref < 256) small (h .small);
+      }
+    where
+      other : {o : Object} → In o os → o .ref ≡ r → ⊥
+      other {o} m e = false-fails (inPool os r) fresh (decides-inPool os r .complete (o .class, subst (λ (x : ℕ). In (object x (o .class)) os) e m, tt))
+
+      one : (o o′ : Object) → (o ≡ object r c) ⊎ In o os → (o′ ≡ object r c) ⊎ In o′ os → o .ref ≡ o′ .ref → o ≡ o′
+      one o o′ (inl p) (inl q) e = p ∙ sym q
+      one o o′ (inl p) (inr m) e = absurd (other m (sym e ∙ ap (λ (x : Object). x .ref) p))
+      one o o′ (inr m) (inl q) e = absurd (other m (e ∙ ap (λ (x : Object). x .ref) q))
+      one o o′ (inr m) (inr n) e = h .plain .once o o′ m n e

@@ -77,7 +77,6 @@ argumentsIn f i k = eqb (at f i) k && (leb (at f i) 6 && all isReference (slice 
 
 -- what a step's frame names, by its kind, and its references. Whether there are such objects is asked when the step is tried
 unfoldable pub namedIn : Named → Frame → Bool
-unfolding argumentsIn
 namedIn d f =
     cond ((eqb (at f 0) 0x20 || eqb (at f 0) 0x21) || eqb (at f 0) 0x22) (isReference (at f 1) && below (d .classes) (at f 2))
     (cond (eqb (at f 0) 0x23 || eqb (at f 0) 0x24) (static (d .fields) (at f 1) (d .field) 1 && isReference (at f 2))

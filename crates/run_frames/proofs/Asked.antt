@@ -1,13 +1,15 @@
 -- The tests of a row: what the definition asks one by one, the judge asks joined.
 -- Assumes nothing.
-use Prim.Native.Nat.{ℕ, suc}
+use Prim.Native.Nat.{ℕ, suc, _<_}
+use native.Mathlib.Omega.{arith}
 use mathlib.Core.Path.{_≡_, refl, _∙_}
-use mathlib.Core.Bool.{Bool, true, false, _&&_, _||_, cond}
+use mathlib.Core.Bool.{Bool, true, false, _&&_, cond}
 use mathlib.Core.List.{List, [], _∷_}
-use lib.Dec.{eqb, eqb·suc-zero}
-use borrow.Author.Tests.{eq-eqb, ne-eqb}
+use lib.Dec.{eqb, ltb, eqb·suc-zero}
+use borrow.Author.Tests.{eq-eqb, ne-eqb, ltb-true}
 use Rattle.meaning.specs.Reading.{Took, refuses, need}
 use Rattle.frames.specs.Judging.{ask}
+use Rattle.run_frames.specs.Judging.{judgeBy}
 
 module _ {A : Type 0} where
   -- t, unless the number refuses it
@@ -54,3 +56,22 @@ pub joined : {A : Type 0} (k : ℕ) (t : Took A) (a : Bool) (bs : List Bool) →
 unfolding needs conj
 joined k t a [] = refl
 joined k t a (b ∷ bs) = need-both k (needs bs k t) a b ∙ joined k t (a && b) bs
+
+-- ---- a frame that is not refused passes its tests
+
+pub record Passes (r f d t : Bool) : Type 0 where
+  pub room : r ≡ true
+  pub fits : f ≡ true
+  pub declared : d ≡ true
+  pub typed : t ≡ true
+
+pub passes : (r f d t : Bool) → judgeBy r f d t ≡ 0 → Passes r f d t
+unfolding judgeBy ask
+passes true true true true h = record { room = refl; fits = refl; declared = refl; typed = refl }
+passes true true true false h = absurd (omega arith)
+passes true true false t h = absurd (omega arith)
+passes true false d t h = absurd (omega arith)
+passes false f d t h = absurd (omega arith)
+
+pub has-room : (n limit : ℕ) (f d t : Bool) → judgeBy (ltb n limit) f d t ≡ 0 → n < limit
+has-room n limit f d t h = ltb-true n limit (passes (ltb n limit) f d t h .room)

@@ -3,3 +3,4 @@ pub mod Pools
 pub mod Asked
 pub mod Judged
 pub mod Named
+pub mod Elements

@@ -52,11 +52,15 @@ take-drop n (suc d) [] = let e : suc d + n ≡ suc (d + n) = omega arith in rw e
     none (suc n) = refl
 take-drop n (suc d) (x ∷ xs) = let e : suc d + n ≡ suc (d + n) = omega arith in rw e (take-drop n d xs)
 
-module _ (f : List ℕ) (i m : ℕ) (l : i + 6 < 16) (long : length f ≡ i + 1 + byte f i) (few : m ≤ 6) where
-  -- a frame with few arguments is wholly kept
-  slice-kept : byte f i ≡ m → slice (i + 1) (i + 1 + byte f i) (firstBytes 16 f) ≡ drop (i + 1) f
-  slice-kept e = rw (← long) (ap (drop (i + 1)) (first-take 16 f (omega (arith, long))))
+-- a frame with few arguments is wholly kept
+module _ (f : List ℕ) (i : ℕ) (l : i + 6 < 16) (long : length f ≡ i + 1 + byte f i) (few : byte f i ≤ 6) where
+  slice-kept : slice (i + 1) (i + 1 + byte f i) (firstBytes 16 f) ≡ drop (i + 1) f
+  slice-kept = rw (← long) (ap (drop (i + 1)) (first-take 16 f (omega (arith, long))))
 
+  pub arguments-kept : take (byte f i) (drop (i + 1) (firstBytes 16 f)) ≡ drop (i + 1) f
+  arguments-kept = take-drop (byte f i) (i + 1) (firstBytes 16 f) ∙ slice-kept
+
+module _ (f : List ℕ) (i m : ℕ) (l : i + 6 < 16) (long : length f ≡ i + 1 + byte f i) (few : m ≤ 6) where
   calls : (call : List ℕ → M.Step) → need (eqb (byte f i) m) 57 (need (all isReference (drop (i + 1) f)) 57 (takes (call (drop (i + 1) f))))
       ≡ need (argumentsIn (packFrame f) i m) 57 (takes (call (take (byte f i) (drop (i + 1) (firstBytes 16 f)))))
   unfolding argumentsIn
@@ -64,7 +68,7 @@ module _ (f : List ℕ) (i m : ℕ) (l : i + 6 < 16) (long : length f ≡ i + 1 
     where
       on : (b : Bool) → (b ≡ true → byte f i ≡ m) → need b 57 (need (all isReference (drop (i + 1) f)) 57 (takes (call (drop (i + 1) f))))
           ≡ need (b && (leb (byte f i) 6 && all isReference (slice (i + 1) (i + 1 + byte f i) (firstBytes 16 f)))) 57 (takes (call (take (byte f i) (drop (i + 1) (firstBytes 16 f)))))
-      on true h = rw (le-leb (byte f i) 6 (omega (arith, h refl)), take-drop (byte f i) (i + 1) (firstBytes 16 f), slice-kept (h refl))
+      on true h = let s : byte f i ≤ 6 = omega (arith, h refl) in rw (le-leb (byte f i) 6 s, slice-kept f i l long s, arguments-kept f i l long s)
       on false h = refl
 
 -- ---- each kind of step

@@ -2,16 +2,16 @@
 -- Assumes nothing.
 use Prim.Native.Nat.{ℕ, zero, suc, _+_, _≤_, _<_}
 use native.Mathlib.Omega.{arith}
-use mathlib.Core.Path.{_≡_, refl, sym, ap, ap₂, subst, _∙_}
+use mathlib.Core.Path.{_≡_, refl, sym, ap, _∙_}
 use mathlib.Core.Bool.{Bool, true, false, _&&_, _||_, not, cond, false≢true}
 use mathlib.Core.List.{List, [], _∷_, _++_}
 use lib.Dec.{T, eqb, leb, ltb, lit<, leb→le}
 use lib.ListN.{length, take, drop, set, length-drop, drop-of-length-le}
 use lib.Seq.{drop-cons}
 use borrow.Author.Tests.{not-true, eqb-true, eqb-false, leb-true, ltb-true}
-use Rattle.meaning.specs.Lists.{In, all}
+use Rattle.meaning.specs.Lists.{all}
 use Rattle.meaning.specs.Text.{byte}
-use Rattle.meaning.specs.Kinds.{Kind, kinds, rowOf, lengthOf, fits}
+use Rattle.meaning.specs.Kinds.{Kind, rowOf, lengthOf, fits}
 use Rattle.meaning.proofs.Bools.{both}
 use Rattle.meaning.proofs.Lists.{all-sound}
 use Rattle.runs.specs.Machine as M

@@ -10,7 +10,6 @@ use Rattle.meaning.specs.Lists.{any}
 use Rattle.meaning.specs.Text.{byte}
 use Rattle.meaning.specs.Kinds.{fits}
 use Rattle.meaning.specs.Tables.{Package}
-use Rattle.meaning.specs.Tables as M
 use Rattle.meaning.specs.Reading.{Took, takes, need, isClass, isType, isMethod}
 use Rattle.runs.specs.Machine.{object}
 use Rattle.runs.specs.Steps.{inPool, isA}

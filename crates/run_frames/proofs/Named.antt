@@ -2,30 +2,37 @@
 -- kept bytes mean.
 -- Assumes nothing.
 use Prim.Native.Nat.{ℕ, zero, suc, _+_, _≤_, _<_}
+use native.Mathlib.Nat.{not-suc-le-zero, le-of-suc-le-suc}
 use native.Mathlib.Omega.{arith}
-use mathlib.Core.Path.{_≡_, refl, sym, ap, ap₂, _∙_}
+use mathlib.Core.Path.{_≡_, refl, sym, ap, _∙_}
 use mathlib.Core.Bool.{Bool, true, false, _&&_, _||_, cond}
-use mathlib.Core.List.{List, [], _∷_}
-use lib.Dec.{eqb, leb, ltb, lit<, lit≤}
-use lib.ListN.{length, take, drop, getD}
+use mathlib.Core.List.{List, [], _∷_, map}
+use lib.Dec.{eqb, leb, ltb, lit<}
+use lib.ListN.{length, take, drop, getD, length-map}
 use lib.Seq.{slice}
 use borrow.Author.Tests.{eqb-true, ltb-true, le-leb}
 use Rattle.meaning.specs.Lists.{all}
 use Rattle.meaning.specs.Text.{byte}
 use Rattle.meaning.specs.Kinds.{rowOf, lengthOf, fits}
-use Rattle.meaning.specs.Tables.{Package, fieldAt, methodAt, paramsOf}
-use Rattle.meaning.specs.Reading.{Took, takes, refuses, need, isClass, isType, isField, isMethodOf}
+use Rattle.meaning.specs.Tables.{Package, noField, noMethod, fieldAt, methodAt, paramsOf}
+use Rattle.meaning.specs.Reading.{Took, takes, need, isClass, isType, isField, isMethodOf}
 use Rattle.meaning.specs.Good.{Good}
 use Rattle.runs.specs.Machine as M
 use Rattle.runs.specs.Run.{placed}
 use Rattle.runs.specs.Script.{Reader, isReference, withStep, onType, onStatic, onField, onStaticMethod, onMethod, stepOf, placeStep, takeStep}
-use Rattle.text.specs.Fits.{fitsFrame}
+use Rattle.tables.specs.declared.Field.{Field}
+use Rattle.tables.specs.declared.Method.{Method}
+use Rattle.tables.specs.declared.Fields.{Fields}
+use Rattle.tables.specs.declared.Methods.{Methods}
+use Rattle.tables.specs.View.{zeroField, zeroMethod}
+use Rattle.tables.specs.Pack.{pad, packField, packMethod, packFields, packMethods}
+use Rattle.tables.proofs.Pack.{pad-at}
 use Rattle.text.specs.Scan.{firstBytes, packFrame}
 use Rattle.text.proofs.Packed.{first-at, first-take}
 use Rattle.text.proofs.Fitting.{fits-packed}
 use Rattle.frames.specs.Judging.{at, below}
 use Rattle.frames.proofs.Judged.{sized}
-use Rattle.steps.specs.View.{argumentsAt, stepIn, stepView}
+use Rattle.steps.specs.View.{stepIn, stepView}
 use Rattle.run_frames.specs.declared.step.Named.{Named}
 use Rattle.run_frames.specs.Judging.{judgeBy, static, argumentsIn, namedIn, judgeStep}
 use Rattle.run_frames.specs.Elements.{placedIn}
@@ -40,6 +47,46 @@ pub record Names (P : Package) (f : List ℕ) (d : Named) : Type 0 where
   pub called : byte f 1 < length (P .methods) → d .called ≡ (methodAt P (byte f 1)) .static
   pub k : byte f 1 < length (P .methods) → d .k ≡ length (paramsOf P (byte f 1))
   pub runs : byte f 2 < length (P .methods) → d .runs ≡ (methodAt P (byte f 2)) .static
+
+-- what the code finds in the tables at the numbers i and j
+abbrev pub namedAt : ℕ → Fields → Methods → ℕ → ℕ → Field → Method → Method → Named
+namedAt nc fs ms i j field called runs =
+    record {
+      classes = nc;
+      fields = fs .n;
+      methods = ms .n;
+      field = (getD (fs .at) i field) .stat;
+      called = (getD (ms .at) i called) .stat;
+      k = (getD (ms .at) i called) .k;
+      runs = (getD (ms .at) j runs) .stat;
+    }
+
+map-at : {A B : Type 0} (f : A → B) (xs : List A) (i : ℕ) (d : B) (z : A) → i < length xs → getD (map f xs) i d ≡ f (getD xs i z)
+map-at f [] i d z h = absurd (not-suc-le-zero h)
+map-at f (x ∷ xs) zero d z h = refl
+map-at f (x ∷ xs) (suc i) d z h = map-at f xs i d z (le-of-suc-le-suc h)
+
+-- an element of a packed table
+packed-at : {A B : Type 0} (f : A → B) (b : B) (n : ℕ) (xs : List A) (i : ℕ) (d : B) (z : A) → i < length xs → getD (pad n b (map f xs)) i d ≡ f (getD xs i z)
+packed-at f b n xs i d z h = pad-at b n (map f xs) i d (rw (length-map xs f) h) ∙ map-at f xs i d z h
+
+module _ (P : Package) {nc : ℕ} {fs : Fields} {ms : Methods} (classes : nc ≡ length (P .classes)) (fields : fs ≡ packFields (P .fields)) (methods : ms ≡ packMethods (P .methods)) where
+  method-at : (i : ℕ) (d : Method) → i < length (P .methods) → getD (ms .at) i d ≡ packMethod (methodAt P i)
+  unfolding packMethods
+  method-at i d h = ap (λ (x : Methods). getD (x .at) i d) methods ∙ packed-at packMethod zeroMethod 256 (P .methods) i d noMethod h
+
+  pub names-at : (f : List ℕ) (field : Field) (called runs : Method) → Names P f (namedAt nc fs ms (byte f 1) (byte f 2) field called runs)
+  unfolding packFields packMethods paramsOf
+  names-at f field called runs =
+      record {
+        classes = classes;
+        fields = ap (λ (x : Fields). x .n) fields;
+        methods = ap (λ (x : Methods). x .n) methods;
+        field = λ h. ap (λ (x : Fields). (getD (x .at) (byte f 1) field) .stat) fields ∙ ap (λ (x : Field). x .stat) (packed-at packField zeroField 256 (P .fields) (byte f 1) field noField h);
+        called = λ h. ap (λ (x : Method). x .stat) (method-at (byte f 1) called h);
+        k = λ h. ap (λ (x : Method). x .k) (method-at (byte f 1) called h);
+        runs = λ h. ap (λ (x : Method). x .stat) (method-at (byte f 2) runs h);
+      }
 
 -- ---- the arguments, where the length is right
 

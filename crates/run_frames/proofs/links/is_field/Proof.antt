@@ -2,7 +2,6 @@
 -- Assumes nothing.
 use borrow.Author.Tests.{eq-eqb, ne-eqb}
 use Rattle.runs.specs.Script.{isFieldOf}
-use borrow.Author.Needs.{needs}
 use Rattle.run_frames.proofs.links.is_field.Statement.{statement}
 use Rattle.run_frames.proofs.links.is_field.Tie as tie
 

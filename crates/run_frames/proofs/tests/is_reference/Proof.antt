@@ -2,7 +2,6 @@
 -- Assumes nothing.
 use mathlib.Core.Path.{refl}
 use Rattle.runs.specs.Script.{isReference}
-use borrow.Author.Needs.{needs}
 use Rattle.run_frames.proofs.tests.is_reference.Statement.{statement}
 use Rattle.run_frames.proofs.tests.is_reference.Tie as tie
 

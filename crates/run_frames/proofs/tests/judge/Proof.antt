@@ -4,7 +4,6 @@ use mathlib.Core.Path.{refl}
 use borrow.Author.Tests.{not-true, not-false}
 use Rattle.frames.proofs.Asked.{stop, skip}
 use Rattle.run_frames.specs.Judging.{judgeBy}
-use borrow.Author.Needs.{needs}
 use Rattle.run_frames.proofs.tests.judge.Statement.{statement}
 use Rattle.run_frames.proofs.tests.judge.Tie as tie
 

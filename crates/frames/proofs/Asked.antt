@@ -10,7 +10,7 @@ use mathlib.Core.List.{List}
 use lib.ListN.{length, getD, take, length-take, drop-of-length-le}
 use lib.Seq.{slice, slice-cons}
 use Rattle.meaning.specs.Lists.{all}
-use Rattle.frames.specs.Judging.{ask, below}
+use Rattle.frames.specs.Judging.{ask}
 
 -- what the first test says, and the others behind it
 module _ (k y : ℕ) {b : Bool} where
@@ -23,11 +23,11 @@ module _ (k y : ℕ) {b : Bool} where
   skip e h = rw e h
 
 -- a slice is judged from its front
-module _ (n i e : ℕ) (b : List ℕ) where
-  pub all-step : i < e → e ≤ length b → all (below n) (slice i e b) ≡ (below n (getD b i 0) && all (below n) (slice (i + 1) e b))
+module _ (p : ℕ → Bool) (i e : ℕ) (b : List ℕ) where
+  pub all-step : i < e → e ≤ length b → all p (slice i e b) ≡ (p (getD b i 0) && all p (slice (i + 1) e b))
   unfolding all
-  all-step h l = ap (all (below n)) (slice-cons i e b 0 h l) ∙ rw (add-one i)
+  all-step h l = ap (all p) (slice-cons i e b 0 h l) ∙ rw (add-one i)
 
-  pub all-done : e ≤ i → all (below n) (slice i e b) ≡ true
+  pub all-done : e ≤ i → all p (slice i e b) ≡ true
   unfolding all
-  all-done h = ap (all (below n)) (drop-of-length-le (take e b) {i = i} (simp length-take (omega (arith, min-le-left e (length b)))))
+  all-done h = ap (all p) (drop-of-length-le (take e b) {i = i} (simp length-take (omega (arith, min-le-left e (length b)))))

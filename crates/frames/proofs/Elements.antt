@@ -38,11 +38,11 @@ passes false f d h = absurd (omega arith)
 pub has-room : (n limit : ℕ) (f d : Bool) → judgeBy (ltb n limit) f d ≡ 0 → n < limit
 has-room n limit f d h = ltb-true n limit (passes (ltb n limit) f d h .room)
 
-left : (a b : Bool) → (a && b) ≡ true → a ≡ true
+pub left : (a b : Bool) → (a && b) ≡ true → a ≡ true
 left true b h = refl
 left false b h = h
 
-right : (a b : Bool) → (a && b) ≡ true → b ≡ true
+pub right : (a b : Bool) → (a && b) ≡ true → b ≡ true
 right true b h = h
 right false b h = absurd (false≢true h)
 

@@ -21,32 +21,53 @@ use Rattle.frames.specs.Judging.{ask, at, below, judgeBy, countedIn, jud
 use Rattle.text.proofs.Packed.{first-at, first-take}
 use Rattle.text.proofs.Fitting.{fits-packed}
 
--- t, unless the number refuses it
-unfoldable pub judged : ℕ → Took Reader → Took Reader
-judged x t = cond (eqb x 0) t (refuses x)
+module _ {A : Type 0} where
+  -- t, unless the number refuses it
+  unfoldable pub judged : ℕ → Took A → Took A
+  judged x t = cond (eqb x 0) t (refuses x)
 
-pub judged-taken : (x : ℕ) (t : Took Reader) → x ≡ 0 → judged x t ≡ t
-unfolding judged
-judged-taken x t z = rw (eq-eqb x 0 z)
+  pub judged-taken : (x : ℕ) (t : Took A) → x ≡ 0 → judged x t ≡ t
+  unfolding judged
+  judged-taken x t z = rw (eq-eqb x 0 z)
 
-pub judged-refused : (x : ℕ) (t : Took Reader) → (x ≡ 0 → ⊥) → judged x t ≡ refuses x
-unfolding judged
-judged-refused x t z = rw (ne-eqb x 0 z)
+  pub judged-refused : (x : ℕ) (t : Took A) → (x ≡ 0 → ⊥) → judged x t ≡ refuses x
+  unfolding judged
+  judged-refused x t z = rw (ne-eqb x 0 z)
 
--- a test of the definition is the judge's
-module _ (k j : ℕ) (t u : Took Reader) {b d : Bool} (e : b ≡ d) where
-  asked : (b ≡ true → t ≡ judged j u) → need b (suc k) t ≡ judged (ask d (suc k) j) u
-  unfolding ask judged
-  asked h = rw (← e) (on b h)
-    where
-      on : (b : Bool) → (b ≡ true → t ≡ judged j u) → need b (suc k) t ≡ judged (ask b (suc k) j) u
-      on true h = h refl
-      on false h = rw (eqb·suc-zero k)
+  -- not refused
+  pub passed : (t : Took A) → t ≡ judged 0 t
+  unfolding judged
+  passed t = refl
 
--- not refused
-passed : (t : Took Reader) → t ≡ judged 0 t
-unfolding judged
-passed t = refl
+  -- a test of the definition is the judge's
+  module _ (k j : ℕ) (t u : Took A) {b d : Bool} (e : b ≡ d) where
+    pub asked : (b ≡ true → t ≡ judged j u) → need b (suc k) t ≡ judged (ask d (suc k) j) u
+    unfolding ask judged
+    asked h = rw (← e) (on b h)
+      where
+        on : (b : Bool) → (b ≡ true → t ≡ judged j u) → need b (suc k) t ≡ judged (ask b (suc k) j) u
+        on true h = h refl
+        on false h = rw (eqb·suc-zero k)
+
+  -- ---- the tests of a row, joined
+
+  -- each of them refused with k
+  unfoldable pub needs : List Bool → ℕ → Took A → Took A
+  needs [] k t = t
+  needs (b ∷ bs) k t = need b k (needs bs k t)
+
+  pub need-both : (k : ℕ) (t : Took A) (a b : Bool) → need a k (need b k t) ≡ need (a && b) k t
+  need-both k t true b = refl
+  need-both k t false b = refl
+
+unfoldable pub conj : Bool → List Bool → Bool
+conj a [] = a
+conj a (b ∷ bs) = conj (a && b) bs
+
+pub joined : {A : Type 0} (k : ℕ) (t : Took A) (a : Bool) (bs : List Bool) → need a k (needs bs k t) ≡ need (conj a bs) k t
+unfolding needs conj
+joined k t a [] = refl
+joined k t a (b ∷ bs) = need-both k (needs bs k t) a b ∙ joined k t (a && b) bs
 
 -- ---- what an effect names
 
@@ -59,7 +80,7 @@ pub record Declares (P : Package) (x : ℕ) (d : Declared) : Type 0 where
   pub method : x < length (P .methods) → d .method ≡ (methodAt P x) .static
 
 -- a declared number's static byte is compared
-static-named : (x n k y z : ℕ) → (x < n → y ≡ z) → (ltb x n && eqb z k) ≡ (ltb x n && eqb y k)
+pub static-named : (x n k y z : ℕ) → (x < n → y ≡ z) → (ltb x n && eqb z k) ≡ (ltb x n && eqb y k)
 static-named x n k y z h = on (ltb x n) (λ e. h (ltb-true x n e))
   where
     on : (b : Bool) → (b ≡ true → y ≡ z) → (b && eqb z k) ≡ (b && eqb y k)
@@ -81,25 +102,7 @@ named P op x d h =
     method : (k : ℕ) → isMethodOf P x k ≡ (ltb x (length (P .methods)) && eqb (d .method) k)
     method k = static-named x (length (P .methods)) k (d .method) ((methodAt P x) .static) (h .method)
 
--- ---- the tests of a row, joined
-
--- each of them refused with k
-needs : List Bool → ℕ → Took Reader → Took Reader
-needs [] k t = t
-needs (b ∷ bs) k t = need b k (needs bs k t)
-
-conj : Bool → List Bool → Bool
-conj a [] = a
-conj a (b ∷ bs) = conj (a && b) bs
-
-joined : (k : ℕ) (t : Took Reader) (a : Bool) (bs : List Bool) → need a k (needs bs k t) ≡ need (conj a bs) k t
-unfolding needs conj
-joined k t a [] = refl
-joined k t a (b ∷ bs) = two a ∙ joined k t (a && b) bs
-  where
-    two : (a : Bool) → need a k (need b k (needs bs k t)) ≡ need (a && b) k (needs bs k t)
-    two true = refl
-    two false = refl
+-- ---- the kinds
 
 -- the row of a kind: 8, 6, and the numbers
 module _ (f : List ℕ) (t : Took Reader) (room a : Bool) (bs : List Bool) (d : Bool) where
@@ -109,8 +112,6 @@ module _ (f : List ℕ) (t : Took Reader) (room a : Bool) (bs : List Bool) (d : 
       asked _ _ _ _ refl (λ _.
       asked _ _ _ _ (sym (fits-packed f)) (λ e.
       joined 7 t a bs ∙ asked _ _ _ _ (h e) (λ _. passed t)))
-
--- ---- the kinds
 
 module _ (f : List ℕ) where
   -- each byte that a test asks for is among those that are kept

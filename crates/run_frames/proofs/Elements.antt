@@ -3,7 +3,7 @@
 use Prim.Native.Nat.{ℕ, zero, suc, _+_, _≤_, _<_}
 use native.Mathlib.Omega.{arith}
 use mathlib.Core.Path.{_≡_, refl, sym, ap, _∙_}
-use mathlib.Core.Bool.{Bool, true, false, _&&_, _||_, not, cond, false≢true}
+use mathlib.Core.Bool.{Bool, true, false, _&&_, _||_, not, cond}
 use mathlib.Core.List.{List, [], _∷_, _++_}
 use lib.Dec.{T, eqb, leb, ltb, lit<, leb→le}
 use lib.ListN.{length, take, drop, set, length-drop, drop-of-length-le}
@@ -25,6 +25,7 @@ use Rattle.text.proofs.Rows.{Row, other, listed, row-of}
 use Rattle.frames.specs.Judging.{at, below}
 use Rattle.frames.proofs.Packed.{first-pad}
 use Rattle.frames.proofs.Judged.{sized}
+use Rattle.frames.proofs.Elements.{left, right}
 use Rattle.tables.specs.Pack.{pad}
 use Rattle.state.specs.View.{packLink, packLabel}
 use Rattle.steps.specs.View.{stepIn, stepView}
@@ -35,14 +36,6 @@ use Rattle.run_frames.specs.Elements.{staticLinkIn, staticLinkOf, object
 use Rattle.run_frames.proofs.Asked.{passes}
 use Rattle.run_frames.proofs.Pools.{Has, among-is, has-new}
 use Rattle.run_frames.proofs.Named.{arguments-kept}
-
-left : (a b : Bool) → (a && b) ≡ true → a ≡ true
-left true b h = refl
-left false b h = h
-
-right : (a b : Bool) → (a && b) ≡ true → b ≡ true
-right true b h = h
-right false b h = absurd (false≢true h)
 
 module _ (f : List ℕ) where
   -- the pool with the object of a line; a byte of a scanned frame is below 256, and so is a class of a good package below FF

@@ -23,11 +23,11 @@ use Rattle.text.specs.Scan.{packFrame}
 use Rattle.text.proofs.Packed.{first-at}
 use Rattle.text.proofs.Fitting.{fits-packed}
 use Rattle.frames.specs.Judging.{at, below}
+use Rattle.frames.proofs.Judged.{judged, passed, asked, needs, conj, joined}
 use Rattle.moves.specs.Below.{Supers}
 use Rattle.run_frames.specs.Judging.{judgeEntry, judgeBy, among, isAmong, fieldAmong, judgeObject, judgeStaticLink, judgeObjectLink, judgeLabel}
 use Rattle.run_frames.specs.Elements.{staticLinkOf, objectLinkOf, labelOf}
 use Rattle.run_frames.proofs.Pools.{Has, among-is, is-among-is}
-use Rattle.run_frames.proofs.Asked.{judged, passed, asked, needs, conj, joined}
 
 -- the reader behind line 1
 abbrev pub entered : ℕ → Reader

@@ -31,12 +31,12 @@ use Rattle.text.specs.Scan.{firstBytes, packFrame}
 use Rattle.text.proofs.Packed.{first-at, first-take}
 use Rattle.text.proofs.Fitting.{fits-packed}
 use Rattle.frames.specs.Judging.{at, below}
-use Rattle.frames.proofs.Judged.{sized}
+use Rattle.frames.proofs.Judged.{judged, passed, asked, need-both, static-named, sized}
+use Rattle.frames.proofs.Elements.{left}
 use Rattle.steps.specs.View.{stepIn, stepView}
 use Rattle.run_frames.specs.declared.step.Named.{Named}
 use Rattle.run_frames.specs.Judging.{judgeBy, static, argumentsIn, namedIn, judgeStep}
 use Rattle.run_frames.specs.Elements.{placedIn}
-use Rattle.run_frames.proofs.Asked.{judged, passed, asked, need-both}
 
 -- d is what the package P declares at the numbers of the frame f
 pub record Names (P : Package) (f : List ℕ) (d : Named) : Type 0 where
@@ -120,14 +120,6 @@ module _ (f : List ℕ) (i m : ℕ) (l : i + 6 < 16) (long : length f ≡ i + 1 
 
 -- ---- each kind of step
 
--- a declared number's static byte is compared
-static-is : (x n k y z : ℕ) → (x < n → y ≡ z) → (ltb x n && eqb z k) ≡ static n x y k
-static-is x n k y z h = on (ltb x n) (λ e. h (ltb-true x n e))
-  where
-    on : (b : Bool) → (b ≡ true → y ≡ z) → (b && eqb z k) ≡ (b && eqb y k)
-    on true e = rw (e refl)
-    on false e = refl
-
 -- ---- tests one behind the other, and kinds
 
 -- t asks c, and then takes k
@@ -165,24 +157,20 @@ module _ (P : Package) (good : Good P) (f : List ℕ) (d : Named) (names : Names
 
   field-is : (s : ℕ) → isField P (byte f 1) s ≡ static (d .fields) (byte f 1) (d .field) s
   unfolding isField
-  field-is s = rw (names .fields) (static-is (byte f 1) (length (P .fields)) s (d .field) ((fieldAt P (byte f 1)) .static) (names .field))
+  field-is s = rw (names .fields) (static-named (byte f 1) (length (P .fields)) s (d .field) ((fieldAt P (byte f 1)) .static) (names .field))
 
   called-is : (s : ℕ) → isMethodOf P (byte f 1) s ≡ static (d .methods) (byte f 1) (d .called) s
   unfolding isMethodOf
-  called-is s = rw (names .methods) (static-is (byte f 1) (length (P .methods)) s (d .called) ((methodAt P (byte f 1)) .static) (names .called))
+  called-is s = rw (names .methods) (static-named (byte f 1) (length (P .methods)) s (d .called) ((methodAt P (byte f 1)) .static) (names .called))
 
   runs-is : (s : ℕ) → isMethodOf P (byte f 2) s ≡ static (d .methods) (byte f 2) (d .runs) s
   unfolding isMethodOf
-  runs-is s = rw (names .methods) (static-is (byte f 2) (length (P .methods)) s (d .runs) ((methodAt P (byte f 2)) .static) (names .runs))
+  runs-is s = rw (names .methods) (static-named (byte f 2) (length (P .methods)) s (d .runs) ((methodAt P (byte f 2)) .static) (names .runs))
 
   -- a method that is named is declared
   named-below : (s : ℕ) → isMethodOf P (byte f 1) s ≡ true → byte f 1 < length (P .methods)
   unfolding isMethodOf
   named-below s e = ltb-true (byte f 1) (length (P .methods)) (left (ltb (byte f 1) (length (P .methods))) _ e)
-    where
-      left : (a b : Bool) → (a && b) ≡ true → a ≡ true
-      left true b h = refl
-      left false b h = h
 
   types : (k : M.Step) → Says (onType P f k) (isReference (byte f 1) && below (d .classes) (byte f 2)) k
   unfolding onType isType isClass

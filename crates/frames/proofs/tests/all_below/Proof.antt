@@ -32,7 +32,7 @@ returns : tie.Need-returns Inv-loop μ-loop
 returns c =
     let x = c .before .before .before .before .before .args .t1 .b in
     let l : length x ≡ 16 = search needs in
-    sym (sym (c .before .before .before .before .loop .inv) ∙ all-step (c .before .before .before .before .before .args .n) (c .before .before .before .before .loop .i) (c .before .before .before .before .before .args .to) x (omega arith) (omega arith) ∙ rw (sym (c .before .below .ensures) ∙ not-true _ (c .if1 .taken)))
+    sym (sym (c .before .before .before .before .loop .inv) ∙ all-step (below (c .before .before .before .before .before .args .n)) (c .before .before .before .before .loop .i) (c .before .before .before .before .before .args .to) x (omega arith) (omega arith) ∙ rw (sym (c .before .below .ensures) ∙ not-true _ (c .if1 .taken)))
 
 add-i : tie.Need-add-i Inv-loop μ-loop
 add-i c = search needs
@@ -44,10 +44,10 @@ loop-again : tie.Need-loop-again Inv-loop μ-loop
 loop-again c =
     let x = c .before .before .before .before .before .args .t1 .b in
     let l : length x ≡ 16 = search needs in
-    sym (rw (sym (c .before .below .ensures) ∙ not-false _ (c .if1 .left)) at (all-step (c .before .before .before .before .before .args .n) (c .before .before .before .before .loop .i) (c .before .before .before .before .before .args .to) x (omega arith) (omega arith))) ∙ c .before .before .before .before .loop .inv
+    sym (rw (sym (c .before .below .ensures) ∙ not-false _ (c .if1 .left)) at (all-step (below (c .before .before .before .before .before .args .n)) (c .before .before .before .before .loop .i) (c .before .before .before .before .before .args .to) x (omega arith) (omega arith))) ∙ c .before .before .before .before .loop .inv
 
 returns-2 : tie.Need-returns-2 Inv-loop μ-loop
-returns-2 c = sym (sym (c .before .loop .inv) ∙ all-done (c .before .before .args .n) (c .before .loop .i) (c .before .before .args .to) (c .before .before .args .t1 .b) (omega arith))
+returns-2 c = sym (sym (c .before .loop .inv) ∙ all-done (below (c .before .before .args .n)) (c .before .loop .i) (c .before .before .args .to) (c .before .before .args .t1 .b) (omega arith))
 
 pub all-below-spec : {M : Type 1} → statement M
 all-below-spec =

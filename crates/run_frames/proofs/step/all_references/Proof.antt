@@ -8,7 +8,7 @@ use lib.Seq.{slice}
 use borrow.Author.Tests.{not-true, not-false}
 use Rattle.meaning.specs.Lists.{all}
 use Rattle.runs.specs.Script.{isReference}
-use Rattle.run_frames.proofs.Looks.{all-step, all-done}
+use Rattle.frames.proofs.Asked.{all-step, all-done}
 use borrow.Author.Needs.{needs}
 use Rattle.run_frames.proofs.step.all_references.Statement.{statement}
 use Rattle.run_frames.proofs.step.all_references.Tie as tie

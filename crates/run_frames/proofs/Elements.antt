@@ -38,7 +38,7 @@ use Rattle.run_frames.proofs.Pools.{Has, among-is, has-new}
 use Rattle.run_frames.proofs.Named.{arguments-kept}
 
 module _ (f : List ℕ) where
-  -- the pool with the object of a line; a byte of a scanned frame is below 256, and so is a class of a good package below FF
+  -- the pool with the object of a line, where the classes are fewer than FF and the reference is a byte
   pub has-more : {os : List Object} {pool : List ℕ} → Has os pool → (nc : ℕ) → nc ≤ 0xFF → at (packFrame f) 1 < 256 → judgeObject nc pool (packFrame f) ≡ 0
       → Has (os ++ (object (byte f 1) (byte f 2) ∷ [])) (set pool (at (packFrame f) 1) (at (packFrame f) 2))
   unfolding judgeObject

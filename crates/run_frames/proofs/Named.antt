@@ -118,8 +118,6 @@ module _ (f : List ℕ) (i m : ℕ) (l : i + 6 < 16) (long : length f ≡ i + 1 
       on true h = let s : byte f i ≤ 6 = omega (arith, h refl) in rw (le-leb (byte f i) 6 s, slice-kept f i l long s, arguments-kept f i l long s)
       on false h = refl
 
--- ---- each kind of step
-
 -- ---- tests one behind the other, and kinds
 
 -- t asks c, and then takes k
@@ -150,6 +148,8 @@ need-same k {t} {u} {a} e h = rw (← e) (on a h)
     on : (a : Bool) → (a ≡ true → t ≡ u) → need a k t ≡ need a k u
     on true h = h refl
     on false h = refl
+
+-- ---- each kind of step
 
 module _ (P : Package) (good : Good P) (f : List ℕ) (d : Named) (names : Names P f d) where
   abbrev x : List ℕ
@@ -213,8 +213,6 @@ module _ (P : Package) (good : Good P) (f : List ℕ) (d : Named) (names : Names
             ∙ need-both 57 _ (a && b) (isReference (byte f 3))
             ∙ need-both 57 _ ((a && b) && isReference (byte f 3)) (argumentsIn (packFrame f) 4 (d .k));
       }
-
-  -- ---- by the kind
 
   -- the lengths of the calls
   long-static : byte f 0 ≡ 0x27 → fits f ≡ true → length f ≡ 2 + 1 + byte f 2

@@ -1,5 +1,5 @@
 -- The number that refuses a frame of a run text, or 0: `runs`' tests of each kind, over the frame as it is scanned and what they need of the
--- package and of the lines before. That they are `runs`': proofs/Judged.antt.
+-- package and of the lines before. That they are `runs`': proofs/Judged.antt and proofs/Named.antt.
 -- Assumes nothing.
 use Prim.Native.Nat.{ℕ, _+_}
 use mathlib.Core.Bool.{Bool, true, _&&_, _||_, not, cond}
@@ -70,7 +70,7 @@ judgeLabel nc n pool rows f = judgeBy (ltb n 32) (fitsFrame f) (among pool (at f
 abbrev pub static : ℕ → ℕ → ℕ → ℕ → Bool
 static n x byte s = below n x && eqb byte s
 
--- the count byte at a place is k, at most six, and each byte that it counts, behind it, is a reference
+-- the count byte at a place is k, at most six as a method's parameters are, and each byte that it counts, behind it, is a reference
 unfoldable pub argumentsIn : Frame → ℕ → ℕ → Bool
 unfolding all
 argumentsIn f i k = eqb (at f i) k && (leb (at f i) 6 && all isReference (slice (i + 1) (i + 1 + at f i) (f .b)))

@@ -43,7 +43,8 @@ fn all_references(f: Frame, from: usize, to: usize) -> bool
     true
 }
 
-// The count byte at a place, which says k, at most six, and the bytes that it counts behind it, each a reference.
+// The count byte at a place, which says k, and the bytes that it counts behind it, each a reference. No method has more than six parameters, so more
+// than six are never read.
 fn arguments(f: Frame, at: usize, k: u8) -> bool
     requires { ⌜ at + 6 < 16 ⌝ }
     ensures { λ r. ⌜ r ≡ argumentsIn f at k ⌝ }

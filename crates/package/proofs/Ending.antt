@@ -17,10 +17,16 @@ use Rattle.meaning.proofs.Order.{five-first}
 use Rattle.meaning.proofs.Reading.{framed}
 use Rattle.text.specs.declared.Cut.{Cut}
 use Rattle.text.proofs.Cuts.{Taken}
-use Rattle.package.specs.declared.line.Cursor.{Cursor}
-use Rattle.package.specs.Sections.{Within, inSection, movedTo, refusal, onward, kindAt, ending, afterEnd, behindEnd, Ended}
-use Rattle.package.proofs.Order.{not-kind, none-follows}
-use Rattle.package.proofs.Turns.{refusedAt, turn-end, turn-nine, turn-bad, turn-refused, turn-taken}
+use Rattle.lines.specs.declared.Cursor.{Cursor}
+use Rattle.lines.specs.Cursors.{Within, movedTo, refusedAt, nextOf}
+use Rattle.lines.proofs.Looks.{next-not}
+use Rattle.package.specs.Sections.{inSection, refusal, onward, ending, afterEnd, behindEnd, Ended}
+use Rattle.package.proofs.Order.{none-follows}
+use Rattle.package.proofs.Turns.{turn-end, turn-nine, turn-bad, turn-refused, turn-taken}
+
+six : (b : ℕ) → b ≡ 6 → rowOf b .section ≡ 6
+unfolding rowOf
+six b e = rw e
 
 -- only 07 follows the last section, and nothing follows 07
 module _ (P : Package) (f : List ℕ) where
@@ -51,7 +57,7 @@ module _ (s : List ℕ) (c : Cursor) (z : c .no ≡ 0) (P : Package) where
 pub ended-refused : {s : List ℕ} {from r : Cursor} → Within s r → (r .no ≡ 0 → ⊥) → ((P : Package) → onward s from (inSection 6 P) ≡ refusal r) → Ended s from r
 ended-refused {r = r} w n e = record { within = w; same = λ P. e P ∙ rw (ne-eqb (r .no) 0 n) }
 
-module _ {s : List ℕ} {from : Cursor} (w : Within s from) (m : kindAt s from 6 ≡ none) (z : from .no ≡ 0) where
+module _ {s : List ℕ} {from : Cursor} (w : Within s from) (m : nextOf s from 6 ≡ none) (z : from .no ≡ 0) where
   refused-here : (x : ℕ) → (x ≡ 0 → ⊥) → ((P : Package) → onward s from (inSection 6 P) ≡ refusal (refusedAt from x)) → Ended s from (refusedAt from x)
   refused-here x n e = ended-refused (record { at = w .at; line = w .line }) n e
 
@@ -65,7 +71,7 @@ module _ {s : List ℕ} {from : Cursor} (w : Within s from) (m : kindAt s from 6
     pub end-five : (byte (t .f) 0 ≡ 7 → ⊥) → Ended s from (refusedAt from 5)
     end-five n =
         refused-here 5 (λ e. absurd (omega arith)) (λ P.
-        turn-refused s from z (inSection 6 P) (t .f) (t .framed) 5 (end-other P (t .f) (not-kind s from 6 m z (t .f) (t .framed)) n))
+        turn-refused s from z (inSection 6 P) (t .f) (t .framed) 5 (end-other P (t .f) (λ e. next-not s from 6 (t .f) z (t .framed) m (six (byte (t .f) 0) e)) n))
 
     pub end-six : byte (t .f) 0 ≡ 7 → fits (t .f) ≡ false → Ended s from (refusedAt from 6)
     end-six b e =

@@ -7,11 +7,11 @@ use native.Mathlib.Omega.{arith}
 use mathlib.Core.Path.{_≡_, refl, sym, _∙_}
 use mathlib.Core.Logic.{_⊎_, inl, inr}
 use mathlib.Core.Bool.{Bool, true, false, cond}
-use mathlib.Core.Option.{Option, none, some, Option·none-ne-some}
+use mathlib.Core.Option.{Option, none, some}
 use mathlib.Core.List.{List}
 use lib.Dec.{eqb, leb, eqb→eq, leb→le, le→leb}
 use lib.ListN.{length}
-use borrow.Author.Tests.{eq-eqb, ne-eqb, eqb-true, eqb-false, leb-true, leb-false, le-leb}
+use borrow.Author.Tests.{ne-eqb, eqb-true, eqb-false, leb-true, leb-false, le-leb}
 use Rattle.meaning.specs.Lists.{all}
 use Rattle.meaning.specs.Text.{frameAt, byte}
 use Rattle.meaning.specs.Kinds.{rowOf, follows}
@@ -21,12 +21,14 @@ use Rattle.meaning.specs.Reading.{takeLater, takeFrame}
 use Rattle.meaning.proofs.Bools.{Decides, decides-as, decides-and, decides-lt, decides-same, fails-false}
 use Rattle.meaning.proofs.Lists.{all-sound}
 use Rattle.text.proofs.Rows.{Row, other, listed, row-of}
-use Rattle.package.specs.declared.line.Cursor.{Cursor}
-use Rattle.package.specs.Sections.{inSection, onward, kindAt}
+use Rattle.lines.specs.declared.Cursor.{Cursor}
+use Rattle.lines.specs.Cursors.{nextOf}
+use Rattle.lines.proofs.Looks.{next-not}
+use Rattle.package.specs.Sections.{inSection, onward}
 use Rattle.package.proofs.Turns.{onward-refused, turn, turn-nine, turn-bad}
 
 -- a kind of a package's text has its own number for its section
-own : (b : ℕ) → 0 < (rowOf b) .section → (rowOf b) .section ≤ 7 → b ≡ (rowOf b) .section
+pub own : (b : ℕ) → 0 < (rowOf b) .section → (rowOf b) .section ≤ 7 → b ≡ (rowOf b) .section
 unfolding all
 own b = on (row-of b)
   where
@@ -44,39 +46,33 @@ decides-follows : (o e b s : ℕ) → Decides (follows o e b s) ((o < s) × ((s 
 unfolding follows
 decides-follows o e b s = decides-and (decides-lt o s) (decides-and (decides-le s e) (decides-and (decides-le b s) (decides-lt b e)))
 
-module _ (s : List ℕ) (c : Cursor) (k : ℕ) where
-  -- what is missing is not there
-  pub not-kind : kindAt s c k ≡ none → c .no ≡ 0 → (f : List ℕ) → frameAt s (c .at) ≡ some f → byte f 0 ≡ k → ⊥
-  unfolding kindAt
-  not-kind m z f e b = Option·none-ne-some f (sym (rw (eq-eqb (c .no) 0 z, e, eq-eqb (byte f 0) k b) at m))
-
--- a frame of another kind than k may follow k where it may follow k + 1; line 1 is section 1, and no other line is
-module _ (k : ℕ) (l : 1 ≤ k) (u : k ≤ 5) (P : Package) (f : List ℕ) (n : 1 < k → byte f 0 ≡ k → ⊥) where
+-- a frame of another section than k may follow k where it may follow k + 1; line 1 is section 1, and no other line is
+module _ (k : ℕ) (l : 1 ≤ k) (u : k ≤ 5) (P : Package) (f : List ℕ) (n : 1 < k → rowOf (byte f 0) .section ≡ k → ⊥) where
   follows-next : follows 1 7 k (rowOf (byte f 0) .section) ≡ follows 1 7 (suc k) (rowOf (byte f 0) .section)
-  follows-next = decides-same (decides-follows 1 7 k σ) (decides-as (decides-follows 1 7 (suc k) σ) (λ h. (h .0, (h .1 .0, (omega arith, omega arith)))) (λ h. (h .0, (h .1 .0, (above (h .0) (h .1 .0) (h .1 .1 .0), omega arith)))))
+  follows-next = decides-same (decides-follows 1 7 k σ) (decides-as (decides-follows 1 7 (suc k) σ) (λ h. (h .0, (h .1 .0, (omega arith, omega arith)))) (λ h. (h .0, (h .1 .0, (above (h .0) (h .1 .1 .0), omega arith)))))
     where
       σ : ℕ
       σ = rowOf (byte f 0) .section
 
-      above : 1 < σ → σ ≤ 7 → k ≤ σ → suc k ≤ σ
-      above h i j = on (eq-or-lt-of-le j)
+      above : 1 < σ → k ≤ σ → suc k ≤ σ
+      above h j = on (eq-or-lt-of-le j)
         where
           on : (k ≡ σ) ⊎ (k < σ) → suc k ≤ σ
-          on (inl e) = absurd (n (rw e h) (own (byte f 0) (omega arith) i ∙ sym e))
+          on (inl e) = absurd (n (rw e h) (sym e))
           on (inr m) = m
 
   taken-next : takeFrame (inSection k P) f ≡ takeFrame (inSection (suc k) P) f
   unfolding takeFrame takeLater
   taken-next = rw (ne-eqb k 0 (λ e. absurd (omega arith)), ne-eqb (suc k) 0 (λ e. absurd (omega arith)), follows-next)
 
-module _ (s : List ℕ) (c : Cursor) (P : Package) (k : ℕ) (l : 1 ≤ k) (u : k ≤ 5) (m : 1 < k → kindAt s c k ≡ none) where
+module _ (s : List ℕ) (c : Cursor) (P : Package) (k : ℕ) (l : 1 ≤ k) (u : k ≤ 5) (m : 1 < k → nextOf s c k ≡ none) where
   pub advance : onward s c (inSection k P) ≡ onward s c (inSection (suc k) P)
   advance = on (eqb (c .no) 0) refl
     where
       lines : c .no ≡ 0 → (o : Option (List ℕ)) → frameAt s (c .at) ≡ o → c .at < length s → onward s c (inSection k P) ≡ onward s c (inSection (suc k) P)
       lines z none e h = turn-bad s c z (inSection k P) h e ∙ sym (turn-bad s c z (inSection (suc k) P) h e)
       lines z (some f) e h =
-          turn s c z (inSection k P) f e (takeFrame (inSection (suc k) P) f) (taken-next k l u P f (λ j. not-kind s c k (m j) z f e))
+          turn s c z (inSection k P) f e (takeFrame (inSection (suc k) P) f) (taken-next k l u P f (λ j. next-not s c k f z e (m j)))
           ∙ sym (turn s c z (inSection (suc k) P) f e (takeFrame (inSection (suc k) P) f) refl)
 
       left : c .no ≡ 0 → (b : Bool) → leb (length s) (c .at) ≡ b → onward s c (inSection k P) ≡ onward s c (inSection (suc k) P)

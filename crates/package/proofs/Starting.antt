@@ -14,10 +14,11 @@ use Rattle.text.specs.declared.Cut.{Cut}
 use Rattle.text.proofs.Cuts.{Taken}
 use Rattle.frames.specs.Judging.{at, judgeHeader}
 use Rattle.frames.proofs.Judged.{judged, judged-taken, judged-refused, header-judged}
-use Rattle.package.specs.declared.line.Cursor.{Cursor}
+use Rattle.lines.specs.declared.Cursor.{Cursor}
+use Rattle.lines.specs.Cursors.{refusedAt}
 use Rattle.package.specs.Sections.{inSection, refusal, onward, noHeader, HeaderRead}
-use Rattle.package.proofs.Looks.{cut-byte}
-use Rattle.package.proofs.Turns.{refusedAt, onward-refused, turn-nine, turn-bad, turn-refused, turn-taken}
+use Rattle.lines.proofs.Looks.{cut-byte}
+use Rattle.package.proofs.Turns.{onward-refused, turn-nine, turn-bad, turn-refused, turn-taken}
 
 abbrev start : Cursor
 start = record { at = 0; line = 0; no = 0 }

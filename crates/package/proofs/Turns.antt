@@ -10,12 +10,9 @@ use borrow.Author.Tests.{eq-eqb, ne-eqb}
 use Rattle.meaning.specs.Text.{linesOf, frameAt, behind}
 use Rattle.meaning.specs.Reading.{Took, takes, refuses, Reader, takeFrame, readNext, readLines, readEnd}
 use Rattle.meaning.proofs.Reading.{read-end, read-bad, read-on}
-use Rattle.package.specs.declared.line.Cursor.{Cursor}
-use Rattle.package.specs.Sections.{movedTo, refusal, onward}
-
--- the place of a cursor, refused with x
-abbrev pub refusedAt : Cursor → ℕ → Cursor
-refusedAt c x = record { at = c .at; line = c .line; no = x }
+use Rattle.lines.specs.declared.Cursor.{Cursor}
+use Rattle.lines.specs.Cursors.{movedTo, refusedAt}
+use Rattle.package.specs.Sections.{refusal, onward}
 
 module _ (s : List ℕ) (c : Cursor) (R : Reader) where
   pub onward-open : c .no ≡ 0 → onward s c R ≡ readLines R (c .line) (linesOf (drop (c .at) s))

@@ -16,7 +16,7 @@ use Rattle.tables.specs.declared.Fields.{Fields}
 use Rattle.tables.specs.declared.Methods.{Methods}
 use Rattle.tables.specs.declared.Effects.{Effects}
 use Rattle.tables.specs.Pack.{packPairs, packClasses, packFields, packMethods, packEffects, pack}
-use Rattle.package.specs.declared.line.Cursor.{Cursor}
+use Rattle.lines.specs.declared.Cursor.{Cursor}
 use Rattle.package.specs.declared.header.Header.{Header}
 use Rattle.package.specs.Sections.{HeaderRead, Section, withPairs, withClasses, withFields, withMethods, withEffects, HasDomains, HasClasses, HasBoth, HasDeclared, refusal, ending, Ended}
 use Rattle.package.specs.Answers.{readingOf}

@@ -13,23 +13,13 @@ use Rattle.meaning.specs.Reading.{answer, Reader, header, Reading, isRead, isRe
 use Rattle.tables.specs.declared.Fields.{Fields}
 use Rattle.tables.specs.declared.Methods.{Methods}
 use Rattle.tables.specs.Pack.{packFields, packMethods}
-use Rattle.text.specs.declared.Cut.{Cut}
-use Rattle.text.proofs.Cuts.{Taken}
-use Rattle.package.specs.declared.line.Cursor.{Cursor}
+use Rattle.lines.specs.declared.Cursor.{Cursor}
+use Rattle.lines.specs.Cursors.{Within, nextOf}
 use Rattle.package.specs.declared.header.Header.{Header}
-
--- as many lines are read as there are, and each has a character
-pub record Within (s : List ℕ) (c : Cursor) : Type 0 where
-  pub at : c .at ≤ length s
-  pub line : c .line ≤ c .at
 
 -- the tables so far, in section k
 abbrev pub inSection : ℕ → Package → Reader
 inSection k P = record { tables = P; section = k }
-
--- behind a line
-abbrev pub movedTo : Cursor → ℕ → Cursor
-movedTo c at = record { at = at; line = c .line + 1; no = 0 }
 
 -- the refusal at a cursor
 abbrev pub refusal : Cursor → Reading
@@ -38,25 +28,6 @@ refusal c = isRefused (answer (c .no) (suc (c .line)) 0)
 -- what the text says from a cursor on: the refusal there, or what is left is read with R
 unfoldable pub onward : List ℕ → Cursor → Reader → Reading
 onward s c R = cond (eqb (c .no) 0) (readLines R (c .line) (linesOf (drop (c .at) s))) (refusal c)
-
--- a frame of this kind
-abbrev pub ofKind : ℕ → Option (List ℕ) → Option (List ℕ)
-ofKind k none = none
-ofKind k (some f) = cond (eqb (byte f 0) k) (some f) none
-
--- the frame at a cursor, where nothing is refused there and it is of this kind
-unfoldable pub kindAt : List ℕ → Cursor → ℕ → Option (List ℕ)
-kindAt s c k = cond (eqb (c .no) 0) (ofKind k (frameAt s (c .at))) none
-
--- what a look at a cursor for a line of kind k finds
-pub record Found (s : List ℕ) (c : Cursor) (k : ℕ) (r : Cut) : Type 0 where
-  pub taken : Taken s (c .at) r
-  pub unrefused : c .no ≡ 0
-  pub kind : byte (taken .f) 0 ≡ k
-
-pub record Looked (s : List ℕ) (c : Cursor) (k : ℕ) (r : Cut) : Type 0 where
-  pub found : r .ok ≡ true → Found s c k r
-  pub missing : r .ok ≡ false → kindAt s c k ≡ none
 
 -- ---- line 1
 
@@ -76,10 +47,10 @@ module _ {A B : Type 0} (pack : List A → B) (grow : Package → List A → Pac
     pub within : Within s next
     pub same : (P : Package) → Has P → onward s from (inSection k (grow P [])) ≡ onward s next (inSection k (grow P list))
 
-  -- no line of kind k is next
+  -- no line of section k is next
   pub record Section : Type 0 where
     pub going : Going
-    pub past : kindAt s next k ≡ none
+    pub past : nextOf s next k ≡ none
 
 abbrev pub withPairs : Package → List Pair → Package
 withPairs P x = record { generation = P .generation; domains = P .domains; pairs = x; classes = P .classes; fields = P .fields; methods = P .methods; effects = P .effects }

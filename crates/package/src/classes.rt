@@ -1,9 +1,9 @@
 // The section of the lines 03 dd k s..
-use crate::line;
-use crate::line::Cursor;
+use lines::Cursor;
 use tables::Classes;
 ghost use Rattle.tables.specs.Pack.{packClasses};
-ghost use Rattle.package.specs.Sections.{Within, Section, withClasses, HasDomains};
+ghost use Rattle.lines.specs.Cursors.{Within};
+ghost use Rattle.package.specs.Sections.{Section, withClasses, HasDomains};
 
 pub struct ClassesRead {
     pub next: Cursor,
@@ -17,7 +17,7 @@ pub(crate) fn read_classes(s: &[u8], from: Cursor, nd: usize) -> ClassesRead
     let mut x = frames::classes::no_classes();
     let mut next = from;
     loop {
-        let cut = line::line_of(s, next, 3);
+        let cut = lines::line_of(s, next, 3);
         let here = cut.ok;
         if !here {
             return ClassesRead { next, classes: x };
@@ -31,6 +31,6 @@ pub(crate) fn read_classes(s: &[u8], from: Cursor, nd: usize) -> ClassesRead
         }
         x.at[n] = frames::classes::class_of(f);
         x.n = n + 1;
-        next = line::moved(next, cut.next);
+        next = lines::moved(next, cut.next);
     }
 }

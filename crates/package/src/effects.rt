@@ -1,12 +1,12 @@
 // The section of the lines 06 mm op xx.
-use crate::line;
-use crate::line::Cursor;
 use frames::effects::Declared;
+use lines::Cursor;
 use tables::Effects;
 use tables::Fields;
 use tables::Methods;
 ghost use Rattle.tables.specs.Pack.{packEffects};
-ghost use Rattle.package.specs.Sections.{Within, Section, withEffects, HasDeclared};
+ghost use Rattle.lines.specs.Cursors.{Within};
+ghost use Rattle.package.specs.Sections.{Section, withEffects, HasDeclared};
 
 pub struct EffectsRead {
     pub next: Cursor,
@@ -26,14 +26,14 @@ pub(crate) fn read_effects(
     let mut x = frames::effects::no_effects();
     let mut next = from;
     loop {
-        let cut = line::line_of(s, next, 6);
+        let cut = lines::line_of(s, next, 6);
         let here = cut.ok;
         if !here {
             return EffectsRead { next, effects: x };
         }
         let f = cut.frame;
         let n = x.n;
-        let i = line::wide(f.b[3]);
+        let i = lines::wide(f.b[3]);
         let field = fields.at[i];
         let method = methods.at[i];
         let d = Declared {
@@ -50,6 +50,6 @@ pub(crate) fn read_effects(
         }
         x.at[n] = frames::effects::effect_of(f);
         x.n = n + 1;
-        next = line::moved(next, cut.next);
+        next = lines::moved(next, cut.next);
     }
 }

@@ -1,8 +1,9 @@
 // The last line, 07, behind which nothing may stand.
-use crate::line::Cursor;
+use lines::Cursor;
 ghost use mathlib.Core.Path.{_≡_};
 ghost use mathlib.Core.Option.{none};
-ghost use Rattle.package.specs.Sections.{Within, kindAt, behindEnd, Ended};
+ghost use Rattle.lines.specs.Cursors.{Within, nextOf};
+ghost use Rattle.package.specs.Sections.{behindEnd, Ended};
 
 // What stands behind the last line: nothing, or a line that is refused.
 fn behind(s: &[u8], at: usize) -> u8
@@ -20,7 +21,7 @@ fn behind(s: &[u8], at: usize) -> u8
 }
 
 pub(crate) fn read_end(s: &[u8], from: Cursor) -> Cursor
-    requires { ⌜ Within (now s) from × (kindAt (now s) from 6 ≡ none) ⌝ }
+    requires { ⌜ Within (now s) from × (nextOf (now s) from 6 ≡ none) ⌝ }
     ensures { λ r. ⌜ Ended (now (s .entry)) from r ⌝ }
 {
     if from.no != 0 {

@@ -1,9 +1,9 @@
 // The section of the lines 04 cc tt ss.
-use crate::line;
-use crate::line::Cursor;
+use lines::Cursor;
 use tables::Fields;
 ghost use Rattle.tables.specs.Pack.{packFields};
-ghost use Rattle.package.specs.Sections.{Within, Section, withFields, HasClasses};
+ghost use Rattle.lines.specs.Cursors.{Within};
+ghost use Rattle.package.specs.Sections.{Section, withFields, HasClasses};
 
 pub struct FieldsRead {
     pub next: Cursor,
@@ -17,7 +17,7 @@ pub(crate) fn read_fields(s: &[u8], from: Cursor, nc: usize) -> FieldsRead
     let mut x = frames::fields::no_fields();
     let mut next = from;
     loop {
-        let cut = line::line_of(s, next, 4);
+        let cut = lines::line_of(s, next, 4);
         let here = cut.ok;
         if !here {
             return FieldsRead { next, fields: x };
@@ -31,6 +31,6 @@ pub(crate) fn read_fields(s: &[u8], from: Cursor, nc: usize) -> FieldsRead
         }
         x.at[n] = frames::fields::field_of(f);
         x.n = n + 1;
-        next = line::moved(next, cut.next);
+        next = lines::moved(next, cut.next);
     }
 }

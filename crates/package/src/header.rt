@@ -1,6 +1,5 @@
 // Line 1.
-use crate::line;
-use crate::line::Cursor;
+use lines::Cursor;
 ghost use mathlib.Core.Path.{_≡_};
 ghost use Rattle.package.specs.Sections.{HeaderRead, noHeader};
 
@@ -39,7 +38,7 @@ pub(crate) fn read_header(s: &[u8]) -> Header
     let at = cut.next;
     Header {
         generation: f.b[1],
-        domains: line::wide(f.b[2]),
+        domains: lines::wide(f.b[2]),
         next: Cursor { at, line: 1, no: 0 },
     }
 }

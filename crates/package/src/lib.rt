@@ -11,7 +11,6 @@ mod effects;
 mod end;
 mod fields;
 mod header;
-mod line;
 mod methods;
 mod pairs;
 

@@ -1,9 +1,9 @@
 // The section of the lines 05 cc ll ss hh hh rr k p..
-use crate::line;
-use crate::line::Cursor;
+use lines::Cursor;
 use tables::Methods;
 ghost use Rattle.tables.specs.Pack.{packMethods};
-ghost use Rattle.package.specs.Sections.{Within, Section, withMethods, HasBoth};
+ghost use Rattle.lines.specs.Cursors.{Within};
+ghost use Rattle.package.specs.Sections.{Section, withMethods, HasBoth};
 
 pub struct MethodsRead {
     pub next: Cursor,
@@ -17,7 +17,7 @@ pub(crate) fn read_methods(s: &[u8], from: Cursor, nd: usize, nc: usize) -> Meth
     let mut x = frames::methods::no_methods();
     let mut next = from;
     loop {
-        let cut = line::line_of(s, next, 5);
+        let cut = lines::line_of(s, next, 5);
         let here = cut.ok;
         if !here {
             return MethodsRead { next, methods: x };
@@ -31,6 +31,6 @@ pub(crate) fn read_methods(s: &[u8], from: Cursor, nd: usize, nc: usize) -> Meth
         }
         x.at[n] = frames::methods::method_of(f);
         x.n = n + 1;
-        next = line::moved(next, cut.next);
+        next = lines::moved(next, cut.next);
     }
 }

@@ -1,9 +1,9 @@
 // The section of the lines 02 EE DD.
-use crate::line;
-use crate::line::Cursor;
+use lines::Cursor;
 use tables::Pairs;
 ghost use Rattle.tables.specs.Pack.{packPairs};
-ghost use Rattle.package.specs.Sections.{Within, Section, withPairs, HasDomains};
+ghost use Rattle.lines.specs.Cursors.{Within};
+ghost use Rattle.package.specs.Sections.{Section, withPairs, HasDomains};
 
 pub struct PairsRead {
     pub next: Cursor,
@@ -17,7 +17,7 @@ pub(crate) fn read_pairs(s: &[u8], from: Cursor, nd: usize) -> PairsRead
     let mut x = frames::pairs::no_pairs();
     let mut next = from;
     loop {
-        let cut = line::line_of(s, next, 2);
+        let cut = lines::line_of(s, next, 2);
         let here = cut.ok;
         if !here {
             return PairsRead { next, pairs: x };
@@ -31,6 +31,6 @@ pub(crate) fn read_pairs(s: &[u8], from: Cursor, nd: usize) -> PairsRead
         }
         x.at[n] = frames::pairs::pair_of(f);
         x.n = n + 1;
-        next = line::moved(next, cut.next);
+        next = lines::moved(next, cut.next);
     }
 }

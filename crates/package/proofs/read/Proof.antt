@@ -3,7 +3,7 @@
 use native.Mathlib.Numerals.{add-one}
 use native.Mathlib.Omega.{arith}
 use mathlib.Core.Path.{_∙_}
-use Rattle.package.specs.Sections.{Within}
+use Rattle.lines.specs.Cursors.{Within}
 use Rattle.package.proofs.Whole.{read-large, whole-refused, whole-read}
 use borrow.Author.Needs.{needs}
 use Rattle.package.proofs.read.Statement.{statement}

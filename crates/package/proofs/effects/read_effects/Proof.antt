@@ -8,7 +8,8 @@ use borrow.Author.Needs.{needs}
 use borrow.Author.Tests.{not-true, not-false}
 use Rattle.tables.specs.Pack.{packEffects}
 use Rattle.package.specs.Sections.{withEffects, HasDeclared, Going}
-use Rattle.package.proofs.Loops.{going-start, moved-within}
+use Rattle.lines.proofs.Looks.{found, missing, moved-within}
+use Rattle.package.proofs.Loops.{going-start}
 use Rattle.package.proofs.Stores.{effects-none}
 use Rattle.package.proofs.Steps.{line-room, line-refused, line-on}
 use Rattle.package.proofs.Known.{effects-kept, by-number}
@@ -31,7 +32,7 @@ line-of-requires : tie.Need-line-of-requires Inv-loop μ-loop
 line-of-requires c κs = search needs
 
 returns : tie.Need-returns Inv-loop μ-loop
-returns c = record { going = c .before .before .loop .inv; past = c .before .line-of .ensures .missing (not-true _ (c .if1 .taken)) }
+returns c = record { going = c .before .before .loop .inv; past = missing _ _ _ (c .before .line-of .ensures) (not-true _ (c .if1 .taken)) }
 
 element-copy-out-wide : tie.Need-element-copy-out-wide Inv-loop μ-loop
 element-copy-out-wide c = search needs
@@ -55,13 +56,13 @@ judge-effect-requires : tie.Need-judge-effect-requires Inv-loop μ-loop
 judge-effect-requires c κs = search needs
 
 returns-2 : tie.Need-returns-2 Inv-loop μ-loop
-returns-2 c = line-refused (effects-kept _ _ _ _ _) (c .before .before .before .before .before .before .before .before .before .loop .inv) (c .before .before .before .before .before .before .before .before .line-of .ensures .found (not-false _ (c .before .before .before .before .before .before .before .if1 .left))) (by-number (c .before .before .before .before .before .before .before .before .before .before .before .before .args .nc) (c .before .before .before .before .before .before .before .before .before .before .before .before .args .t4) (c .before .before .before .before .before .before .before .before .before .before .before .before .args .t5) _ _ _ _ (c .before .before .before .before .wide .ensures .0) (c .before .judge-effect .ensures)) (c .if2 .taken)
+returns-2 c = line-refused (effects-kept _ _ _ _ _) (c .before .before .before .before .before .before .before .before .before .loop .inv) (found _ _ _ (c .before .before .before .before .before .before .before .before .line-of .ensures) (not-false _ (c .before .before .before .before .before .before .before .if1 .left))) (by-number (c .before .before .before .before .before .before .before .before .before .before .before .before .args .nc) (c .before .before .before .before .before .before .before .before .before .before .before .before .args .t4) (c .before .before .before .before .before .before .before .before .before .before .before .before .args .t5) _ _ _ _ (c .before .before .before .before .wide .ensures .0) (c .before .judge-effect .ensures)) (c .if2 .taken)
 
 effect-of-requires : tie.Need-effect-of-requires Inv-loop μ-loop
 effect-of-requires c κs = search needs
 
 room : (c : tie.After-effect-of Inv-loop μ-loop) → c .before .before .before .before .before .before .before .before .before .before .loop .x .n < 1024
-room c = line-room (effects-kept _ _ _ _ _) (c .before .before .before .before .before .before .before .before .before .before .loop .inv) (c .before .before .before .before .before .before .before .before .before .line-of .ensures .found (not-false _ (c .before .before .before .before .before .before .before .before .if1 .left))) (by-number (c .before .before .before .before .before .before .before .before .before .before .before .before .before .args .nc) (c .before .before .before .before .before .before .before .before .before .before .before .before .before .args .t4) (c .before .before .before .before .before .before .before .before .before .before .before .before .before .args .t5) _ _ _ _ (c .before .before .before .before .before .wide .ensures .0) (c .before .before .judge-effect .ensures)) (c .before .if2 .left)
+room c = line-room (effects-kept _ _ _ _ _) (c .before .before .before .before .before .before .before .before .before .before .loop .inv) (found _ _ _ (c .before .before .before .before .before .before .before .before .before .line-of .ensures) (not-false _ (c .before .before .before .before .before .before .before .before .if1 .left))) (by-number (c .before .before .before .before .before .before .before .before .before .before .before .before .before .args .nc) (c .before .before .before .before .before .before .before .before .before .before .before .before .before .args .t4) (c .before .before .before .before .before .before .before .before .before .before .before .before .before .args .t5) _ _ _ _ (c .before .before .before .before .before .wide .ensures .0) (c .before .before .judge-effect .ensures)) (c .before .if2 .left)
 
 mul-t25 : tie.Need-mul-t25 Inv-loop μ-loop
 mul-t25 c = omega (arith, room c)
@@ -73,15 +74,15 @@ add-x : tie.Need-add-x Inv-loop μ-loop
 add-x c = omega (arith, room c)
 
 moved-requires : tie.Need-moved-requires Inv-loop μ-loop
-moved-requires c κs = let d = (c .before .before .before .before .before .before .before .before .before .line-of .ensures .found (not-false _ (c .before .before .before .before .before .before .before .before .if1 .left))) in omega (arith, d .taken .next, c .before .before .before .before .before .before .before .before .before .before .loop .inv .within .line)
+moved-requires c κs = let d = (found _ _ _ (c .before .before .before .before .before .before .before .before .before .line-of .ensures) (not-false _ (c .before .before .before .before .before .before .before .before .if1 .left))) in omega (arith, d .taken .next, c .before .before .before .before .before .before .before .before .before .before .loop .inv .within .line)
 
 loop-less : tie.Need-loop-less Inv-loop μ-loop
 loop-less c =
-    let d = (c .before .before .before .before .before .before .before .before .before .before .line-of .ensures .found (not-false _ (c .before .before .before .before .before .before .before .before .before .if1 .left))) in
+    let d = (found _ _ _ (c .before .before .before .before .before .before .before .before .before .before .line-of .ensures) (not-false _ (c .before .before .before .before .before .before .before .before .before .if1 .left))) in
     rw (c .moved .ensures) (omega (arith, moved-within (c .before .before .before .before .before .before .before .before .before .before .before .loop .inv .within) d .at, d .taken .next))
 
 loop-again : tie.Need-loop-again Inv-loop μ-loop
-loop-again c = rw (c .moved .ensures) (line-on (effects-kept _ _ _ _ _) (c .before .before .before .before .before .before .before .before .before .before .before .loop .inv) (c .before .before .before .before .before .before .before .before .before .before .line-of .ensures .found (not-false _ (c .before .before .before .before .before .before .before .before .before .if1 .left))) (by-number (c .before .before .before .before .before .before .before .before .before .before .before .before .before .before .args .nc) (c .before .before .before .before .before .before .before .before .before .before .before .before .before .before .args .t4) (c .before .before .before .before .before .before .before .before .before .before .before .before .before .before .args .t5) _ _ _ _ (c .before .before .before .before .before .before .wide .ensures .0) (c .before .before .before .judge-effect .ensures)) (c .before .effect-of .ensures) (c .before .before .if2 .left))
+loop-again c = rw (c .moved .ensures) (line-on (effects-kept _ _ _ _ _) (c .before .before .before .before .before .before .before .before .before .before .before .loop .inv) (found _ _ _ (c .before .before .before .before .before .before .before .before .before .before .line-of .ensures) (not-false _ (c .before .before .before .before .before .before .before .before .before .if1 .left))) (by-number (c .before .before .before .before .before .before .before .before .before .before .before .before .before .before .args .nc) (c .before .before .before .before .before .before .before .before .before .before .before .before .before .before .args .t4) (c .before .before .before .before .before .before .before .before .before .before .before .before .before .before .args .t5) _ _ _ _ (c .before .before .before .before .before .before .wide .ensures .0) (c .before .before .before .judge-effect .ensures)) (c .before .effect-of .ensures) (c .before .before .if2 .left))
 
 pub read-effects-spec : {M : Type 1} → statement M
 read-effects-spec =

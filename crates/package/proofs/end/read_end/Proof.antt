@@ -4,7 +4,7 @@ use mathlib.Core.Path.{sym, _∙_}
 use lib.Dec.{lit<}
 use borrow.Author.Tests.{not-true, not-false}
 use Rattle.text.proofs.Cuts.{cut-taken, cut-refused}
-use Rattle.package.proofs.Looks.{cut-byte, cut-fits}
+use Rattle.lines.proofs.Looks.{cut-byte, cut-fits}
 use Rattle.package.proofs.Turns.{onward-refused}
 use Rattle.package.proofs.Ending.{ended-refused, end-nine, end-bad, end-five, end-six, end-taken}
 use borrow.Author.Needs.{needs}

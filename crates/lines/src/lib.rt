@@ -1,10 +1,10 @@
-// Where a reader stands in the text, and the line there.
+// Where a reader stands in a text, and the line there: what the readers of both texts share.
 use text::Cut;
 use text::Frame;
 ghost use mathlib.Core.Path.{_≡_};
 ghost use Prim.Native.Nat.{_<_};
-ghost use mathlib.Core.Bool.{false};
-ghost use Rattle.package.specs.Sections.{movedTo, Looked};
+ghost use Rattle.text.specs.Scan.{noCut};
+ghost use Rattle.lines.specs.Cursors.{movedTo, lineOf};
 
 // Where the next line begins, how many lines are read, and the number that refuses the next one, or 0.
 pub struct Cursor {
@@ -13,14 +13,14 @@ pub struct Cursor {
     pub no: u8,
 }
 
-pub(crate) fn wide(x: u8) -> usize
+pub fn wide(x: u8) -> usize
     ensures { λ r. ⌜ (r ≡ x) × (r < 256) ⌝ }
 {
     x as usize
 }
 
 // Behind a line that ends before `at`.
-pub(crate) fn moved(c: Cursor, at: usize) -> Cursor
+pub fn moved(c: Cursor, at: usize) -> Cursor
     requires { ⌜ c .line < at ⌝ }
     ensures { λ r. ⌜ r ≡ movedTo c at ⌝ }
 {
@@ -32,7 +32,7 @@ pub(crate) fn moved(c: Cursor, at: usize) -> Cursor
 }
 
 fn no_line(at: usize) -> Cut
-    ensures { λ r. ⌜ r .ok ≡ false ⌝ }
+    ensures { λ r. ⌜ r ≡ noCut at ⌝ }
 {
     Cut {
         ok: false,
@@ -41,9 +41,9 @@ fn no_line(at: usize) -> Cut
     }
 }
 
-// The next line, where none is refused yet, it keeps the line rule, and it is of this kind.
-pub(crate) fn line_of(s: &[u8], c: Cursor, kind: u8) -> Cut
-    ensures { λ r. ⌜ Looked (now (s .entry)) c kind r ⌝ }
+// The next line, where none is refused yet, it keeps the line rule, and its kind is of this section.
+pub fn line_of(s: &[u8], c: Cursor, section: u8) -> Cut
+    ensures { λ r. ⌜ r ≡ lineOf (now (s .entry)) c section ⌝ }
 {
     let at = c.at;
     if c.no != 0 {
@@ -55,7 +55,8 @@ pub(crate) fn line_of(s: &[u8], c: Cursor, kind: u8) -> Cut
         return cut;
     }
     let f = cut.frame;
-    if f.b[0] != kind {
+    let kind = text::kind_of(f.b[0]);
+    if kind.section != section {
         return no_line(at);
     }
     cut

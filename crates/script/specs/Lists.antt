@@ -1,0 +1,128 @@
+-- What each section of a run text reads, what holds it, and what a section is told of the package and of the sections before it.
+-- Assumes nothing.
+use Prim.Native.Nat.{ℕ, _+_}
+use mathlib.Core.Path.{_≡_}
+use mathlib.Core.Bool.{cond}
+use mathlib.Core.List.{List, [], map}
+use lib.ListN.{length, getD, set, replicate}
+use Rattle.meaning.specs.Lists.{In}
+use Rattle.meaning.specs.Tables.{Package}
+use Rattle.runs.specs.Machine as M
+use Rattle.runs.specs.Machine.{sameLink, sameLabel, addAll}
+use Rattle.runs.specs.Steps.{holds, hasLink}
+use Rattle.runs.specs.Run.{Placed}
+use Rattle.runs.specs.Script.{Reader}
+use Rattle.text.specs.declared.Frame.{Frame}
+use Rattle.tables.specs.declared.Fields.{Fields}
+use Rattle.tables.specs.declared.Methods.{Methods}
+use Rattle.tables.specs.View.{zeroField, zeroMethod}
+use Rattle.tables.specs.Pack.{pad, packFields, packMethods}
+use Rattle.frames.specs.Judging.{at}
+use Rattle.state.specs.declared.Link.{Link}
+use Rattle.state.specs.declared.Label.{Label}
+use Rattle.state.specs.View.{noLink, noLabel, labelView, linkView, linksView, frameView, packLink, packLabel, packPool}
+use Rattle.state.proofs.Pool.{Plain}
+use Rattle.steps.specs.declared.Steps.{Steps}
+use Rattle.steps.specs.View.{zeroStep}
+use Rattle.steps.specs.Pack.{packSteps}
+use Rattle.moves.specs.Below.{Supers}
+use Rattle.run_frames.specs.declared.step.Named.{Named}
+use Rattle.script.specs.declared.link_lines.LinkLines.{LinkLines}
+use Rattle.script.specs.declared.label_lines.LabelLines.{LabelLines}
+
+-- ---- objects
+
+abbrev pub withObjects : Reader → List M.Object → Reader
+withObjects R xs = record { section = R .section; entry = R .entry; objects = xs; links = R .links; labels = R .labels; steps = R .steps }
+
+-- the pool of the objects, each number once
+pub record HoldsObjects (xs : List M.Object) (pool : List ℕ) : Type 0 where
+  pub packed : pool ≡ packPool xs
+  pub plain : Plain xs
+
+abbrev pub HasClasses : ℕ → Package → Reader → Type 0
+HasClasses nc P R = length (P .classes) ≡ nc
+
+-- ---- links: the set, and the count of the lines
+
+abbrev pub withLinks : Reader → List M.Link → Reader
+withLinks R xs = record { section = R .section; entry = R .entry; objects = R .objects; links = xs; labels = R .labels; steps = R .steps }
+
+abbrev pub noLinks : LinkLines
+noLinks = record { at = replicate 256 noLink; n = 0; lines = 0 }
+
+unfoldable pub packLinks : List M.Link → LinkLines
+packLinks xs = record { at = pad 256 noLink (map packLink (addAll sameLink xs [])); n = length (addAll sameLink xs []); lines = length xs }
+
+abbrev pub HoldsLinks : List M.Link → LinkLines → Type 0
+HoldsLinks xs x = x ≡ packLinks xs
+
+pub record SomeLinks (x : LinkLines) : Type 0 where
+  pub list : List M.Link
+  pub holds : HoldsLinks list x
+
+-- one line more, and the link besides, unless it is there
+unfoldable pub oneLink : LinkLines → Link → LinkLines
+oneLink x k =
+    cond (hasLink (linksView (x .at) (x .n)) (linkView k))
+    (record { at = x .at; n = x .n; lines = x .lines + 1 })
+    (record { at = set (x .at) (x .n) k; n = x .n + 1; lines = x .lines + 1 })
+
+-- the package's classes and rows, and the objects that are read
+pub record HasObjects (nc : ℕ) (pool rows : List ℕ) (P : Package) (R : Reader) : Type 0 where
+  pub classes : length (P .classes) ≡ nc
+  pub objects : HoldsObjects (R .objects) pool
+  pub supers : Supers P rows
+
+pub record HasFields (nc : ℕ) (fields : Fields) (pool rows : List ℕ) (P : Package) (R : Reader) : Type 0 where
+  pub start : HasObjects nc pool rows P R
+  pub fields : fields ≡ packFields (P .fields)
+
+-- ---- labels, likewise
+
+abbrev pub withLabels : Reader → List M.Label → Reader
+withLabels R xs = record { section = R .section; entry = R .entry; objects = R .objects; links = R .links; labels = xs; steps = R .steps }
+
+abbrev pub noLabels : LabelLines
+noLabels = record { at = replicate 544 noLabel; n = 0; lines = 0 }
+
+unfoldable pub packLabels : List M.Label → LabelLines
+packLabels xs = record { at = pad 544 noLabel (map packLabel (addAll sameLabel xs [])); n = length (addAll sameLabel xs []); lines = length xs }
+
+abbrev pub HoldsLabels : List M.Label → LabelLines → Type 0
+HoldsLabels xs x = x ≡ packLabels xs
+
+unfoldable pub oneLabel : LabelLines → Label → LabelLines
+oneLabel x l =
+    cond (holds (frameView (x .at) 0 (x .n)) (l .r) (l .c))
+    (record { at = x .at; n = x .n; lines = x .lines + 1 })
+    (record { at = set (x .at) (x .n) l; n = x .n + 1; lines = x .lines + 1 })
+
+-- ---- steps
+
+abbrev pub withSteps : Reader → List Placed → Reader
+withSteps R xs = record { section = R .section; entry = R .entry; objects = R .objects; links = R .links; labels = R .labels; steps = xs }
+
+abbrev pub noSteps : Steps
+noSteps = record { at = replicate 1024 zeroStep; n = 0 }
+
+abbrev pub HoldsSteps : List Placed → Steps → Type 0
+HoldsSteps xs x = x ≡ packSteps xs
+
+-- what is declared at the numbers of a step's frame
+abbrev pub namedAt : ℕ → Fields → Methods → Frame → Named
+namedAt nc fields methods f =
+    record {
+      classes = nc;
+      fields = fields .n;
+      methods = methods .n;
+      field = (getD (fields .at) (at f 1) zeroField) .stat;
+      called = (getD (methods .at) (at f 1) zeroMethod) .stat;
+      k = (getD (methods .at) (at f 1) zeroMethod) .k;
+      runs = (getD (methods .at) (at f 2) zeroMethod) .stat;
+    }
+
+pub record HasDeclared (nc : ℕ) (fields : Fields) (methods : Methods) (P : Package) (R : Reader) : Type 0 where
+  pub classes : length (P .classes) ≡ nc
+  pub fields : fields ≡ packFields (P .fields)
+  pub methods : methods ≡ packMethods (P .methods)

@@ -1,0 +1,38 @@
+// The section of the lines 11 rr cc.
+use lines::Cursor;
+ghost use Prim.Native.Nat.{_≤_};
+ghost use mathlib.Core.List.{[]};
+ghost use Rattle.lines.specs.Cursors.{Within};
+ghost use Rattle.script.specs.Sections.{Section};
+ghost use Rattle.script.specs.Lists.{HoldsObjects, withObjects, HasClasses};
+
+pub struct ObjectsRead {
+    pub next: Cursor,
+    pub pool: [u8; 256],
+}
+
+// With nc classes.
+pub(crate) fn read_objects(s: &[u8], from: Cursor, nc: usize) -> ObjectsRead
+    requires { ⌜ Within (now s) from ⌝ }
+    requires { ⌜ nc ≤ 127 ⌝ }
+    ensures { λ r. ⌜ Section HoldsObjects withObjects (HasClasses nc) 0x11 (now (s .entry)) from [] (r .next) (r .pool) ⌝ }
+{
+    let mut pool = [255u8; 256];
+    let mut next = from;
+    loop {
+        let cut = lines::line_of(s, next, 0x11);
+        let here = cut.ok;
+        if !here {
+            return ObjectsRead { next, pool };
+        }
+        let f = cut.frame;
+        let no = run_frames::objects::judge_object(nc, pool, f);
+        if no != 0 {
+            next.no = no;
+            return ObjectsRead { next, pool };
+        }
+        let r = lines::wide(f.b[1]);
+        pool[r] = f.b[2];
+        next = lines::moved(next, cut.next);
+    }
+}

@@ -1,0 +1,87 @@
+// The section of the steps, 20 to 29 in any order.
+use lines::Cursor;
+use run_frames::step::Named;
+use steps::Step;
+use steps::Steps;
+use tables::Fields;
+use tables::Methods;
+use text::Frame;
+ghost use mathlib.Core.Path.{_≡_};
+ghost use Prim.Native.Nat.{_≤_};
+ghost use mathlib.Core.List.{[]};
+ghost use lib.ListN.{length};
+ghost use Rattle.lines.specs.Cursors.{Within};
+ghost use Rattle.script.specs.Sections.{Section};
+ghost use Rattle.script.specs.Lists.{noSteps, namedAt, HoldsSteps, withSteps, HasDeclared};
+
+pub struct StepsRead {
+    pub next: Cursor,
+    pub steps: Steps,
+}
+
+pub(crate) fn no_steps() -> Steps
+    ensures { λ r. ⌜ r ≡ noSteps ⌝ }
+{
+    let zero = Step {
+        line: 0,
+        b: [0u8; 16],
+    };
+    Steps {
+        at: [zero; 1024],
+        n: 0,
+    }
+}
+
+// What is declared at the numbers of a step's frame.
+fn named(nc: usize, fields: Fields, methods: Methods, f: Frame) -> Named
+    ensures { λ r. ⌜ r ≡ namedAt nc fields methods f ⌝ }
+{
+    let i = lines::wide(f.b[1]);
+    let j = lines::wide(f.b[2]);
+    let field = fields.at[i];
+    let called = methods.at[i];
+    let runs = methods.at[j];
+    Named {
+        classes: nc,
+        fields: fields.n,
+        methods: methods.n,
+        field: field.stat,
+        called: called.stat,
+        k: called.k,
+        runs: runs.stat,
+    }
+}
+
+// With nc classes, the fields and the methods.
+pub(crate) fn read_steps(
+    s: &[u8],
+    from: Cursor,
+    nc: usize,
+    fields: Fields,
+    methods: Methods,
+) -> StepsRead
+    requires { ⌜ Within (now s) from ⌝ }
+    requires { ⌜ length (now s) ≤ 32768 ⌝ }
+    ensures { λ r. ⌜ Section HoldsSteps withSteps (HasDeclared nc fields methods) 0x20 (now (s .entry)) from [] (r .next) (r .steps) ⌝ }
+{
+    let mut x = no_steps();
+    let mut next = from;
+    loop {
+        let cut = lines::line_of(s, next, 0x20);
+        let here = cut.ok;
+        if !here {
+            return StepsRead { next, steps: x };
+        }
+        let f = cut.frame;
+        let n = x.n;
+        let d = named(nc, fields, methods, f);
+        let no = run_frames::step::judge_step(d, n, f);
+        if no != 0 {
+            next.no = no;
+            return StepsRead { next, steps: x };
+        }
+        next = lines::moved(next, cut.next);
+        x.at[n] = run_frames::step::step_of(f, next.line as u16);
+        x.n = n + 1;
+    }
+}

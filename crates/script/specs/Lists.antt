@@ -5,7 +5,6 @@ use mathlib.Core.Path.{_≡_}
 use mathlib.Core.Bool.{cond}
 use mathlib.Core.List.{List, [], map}
 use lib.ListN.{length, getD, set, replicate}
-use Rattle.meaning.specs.Lists.{In}
 use Rattle.meaning.specs.Tables.{Package}
 use Rattle.runs.specs.Machine as M
 use Rattle.runs.specs.Machine.{sameLink, sameLabel, addAll}
@@ -20,7 +19,7 @@ use Rattle.tables.specs.Pack.{pad, packFields, packMethods}
 use Rattle.frames.specs.Judging.{at}
 use Rattle.state.specs.declared.Link.{Link}
 use Rattle.state.specs.declared.Label.{Label}
-use Rattle.state.specs.View.{noLink, noLabel, labelView, linkView, linksView, frameView, packLink, packLabel, packPool}
+use Rattle.state.specs.View.{noLink, noLabel, linkView, linksView, frameView, packLink, packLabel, packPool}
 use Rattle.state.proofs.Pool.{Plain}
 use Rattle.steps.specs.declared.Steps.{Steps}
 use Rattle.steps.specs.View.{zeroStep}
@@ -74,9 +73,9 @@ pub record HasObjects (nc : ℕ) (pool rows : List ℕ) (P : Package) (R : Reade
   pub objects : HoldsObjects (R .objects) pool
   pub supers : Supers P rows
 
-pub record HasFields (nc : ℕ) (fields : Fields) (pool rows : List ℕ) (P : Package) (R : Reader) : Type 0 where
+pub record HasFields (nc : ℕ) (fs : Fields) (pool rows : List ℕ) (P : Package) (R : Reader) : Type 0 where
   pub start : HasObjects nc pool rows P R
-  pub fields : fields ≡ packFields (P .fields)
+  pub fields : fs ≡ packFields (P .fields)
 
 -- ---- labels, likewise
 
@@ -122,7 +121,7 @@ namedAt nc fields methods f =
       runs = (getD (methods .at) (at f 2) zeroMethod) .stat;
     }
 
-pub record HasDeclared (nc : ℕ) (fields : Fields) (methods : Methods) (P : Package) (R : Reader) : Type 0 where
+pub record HasDeclared (nc : ℕ) (fs : Fields) (ms : Methods) (P : Package) (R : Reader) : Type 0 where
   pub classes : length (P .classes) ≡ nc
-  pub fields : fields ≡ packFields (P .fields)
-  pub methods : methods ≡ packMethods (P .methods)
+  pub fields : fs ≡ packFields (P .fields)
+  pub methods : ms ≡ packMethods (P .methods)

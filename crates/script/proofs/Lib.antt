@@ -1,0 +1,4 @@
+pub mod Turns
+pub mod Order
+pub mod Loops
+pub mod Ending

@@ -1,0 +1,26 @@
+-- `behind` is 0 at the end of the text, 52 at a line without a frame, and 55 at any other.
+-- Assumes nothing.
+use borrow.Author.Tests.{le-leb, lt-leb, not-true, not-false}
+use Rattle.text.proofs.Cuts.{cut-taken, cut-refused}
+use Rattle.script.specs.Sections.{behindEnd}
+use borrow.Author.Needs.{needs}
+use Rattle.script.proofs.end.behind.Statement.{statement}
+use Rattle.script.proofs.end.behind.Tie as tie
+
+returns : tie.Need-returns
+unfolding behindEnd
+returns c = rw (le-leb _ _ (c .if1 .taken))
+
+scan-requires : tie.Need-scan-requires
+scan-requires c κs = search needs
+
+returns-2 : tie.Need-returns-2
+unfolding behindEnd
+returns-2 c = rw (lt-leb _ _ (c .before .before .if1 .left), cut-refused _ _ (c .before .scan .ensures) (not-true _ (c .if2 .taken)))
+
+returns-3 : tie.Need-returns-3
+unfolding behindEnd
+returns-3 c = rw (lt-leb _ _ (c .before .before .if1 .left), cut-taken _ _ (c .before .scan .ensures) (not-false _ (c .if2 .left)) .framed)
+
+pub behind-spec : {M : Type 1} → statement M
+behind-spec = tie.close (tie.spec returns scan-requires returns-2 returns-3)

@@ -19,13 +19,13 @@ use Rattle.tables.specs.Pack.{pad, packFields, packMethods}
 use Rattle.frames.specs.Judging.{at}
 use Rattle.state.specs.declared.Link.{Link}
 use Rattle.state.specs.declared.Label.{Label}
-use Rattle.state.specs.View.{noLink, noLabel, linkView, linksView, frameView, packLink, packLabel, packPool}
-use Rattle.state.proofs.Pool.{Plain}
+use Rattle.state.specs.View.{noLink, noLabel, linkView, linksView, frameView, packLink, packLabel}
 use Rattle.steps.specs.declared.Steps.{Steps}
 use Rattle.steps.specs.View.{zeroStep}
 use Rattle.steps.specs.Pack.{packSteps}
 use Rattle.moves.specs.Below.{Supers}
 use Rattle.run_frames.specs.declared.step.Named.{Named}
+use Rattle.run_frames.proofs.Pools.{Has}
 use Rattle.script.specs.declared.link_lines.LinkLines.{LinkLines}
 use Rattle.script.specs.declared.label_lines.LabelLines.{LabelLines}
 
@@ -33,11 +33,6 @@ use Rattle.script.specs.declared.label_lines.LabelLines.{LabelLines}
 
 abbrev pub withObjects : Reader → List M.Object → Reader
 withObjects R xs = record { section = R .section; entry = R .entry; objects = xs; links = R .links; labels = R .labels; steps = R .steps }
-
--- the pool of the objects, each number once
-pub record HoldsObjects (xs : List M.Object) (pool : List ℕ) : Type 0 where
-  pub packed : pool ≡ packPool xs
-  pub plain : Plain xs
 
 abbrev pub HasClasses : ℕ → Package → Reader → Type 0
 HasClasses nc P R = length (P .classes) ≡ nc
@@ -70,7 +65,7 @@ oneLink x k =
 -- the package's classes and rows, and the objects that are read
 pub record HasObjects (nc : ℕ) (pool rows : List ℕ) (P : Package) (R : Reader) : Type 0 where
   pub classes : length (P .classes) ≡ nc
-  pub objects : HoldsObjects (R .objects) pool
+  pub objects : Has (R .objects) pool
   pub supers : Supers P rows
 
 pub record HasFields (nc : ℕ) (fs : Fields) (pool rows : List ℕ) (P : Package) (R : Reader) : Type 0 where

@@ -3,8 +3,9 @@ use lines::Cursor;
 ghost use Prim.Native.Nat.{_≤_};
 ghost use mathlib.Core.List.{[]};
 ghost use Rattle.lines.specs.Cursors.{Within};
+ghost use Rattle.run_frames.proofs.Pools.{Has};
 ghost use Rattle.script.specs.Sections.{Section};
-ghost use Rattle.script.specs.Lists.{HoldsObjects, withObjects, HasClasses};
+ghost use Rattle.script.specs.Lists.{withObjects, HasClasses};
 
 pub struct ObjectsRead {
     pub next: Cursor,
@@ -15,7 +16,7 @@ pub struct ObjectsRead {
 pub(crate) fn read_objects(s: &[u8], from: Cursor, nc: usize) -> ObjectsRead
     requires { ⌜ Within (now s) from ⌝ }
     requires { ⌜ nc ≤ 127 ⌝ }
-    ensures { λ r. ⌜ Section HoldsObjects withObjects (HasClasses nc) 0x11 (now (s .entry)) from [] (r .next) (r .pool) ⌝ }
+    ensures { λ r. ⌜ Section Has withObjects (HasClasses nc) 0x11 (now (s .entry)) from [] (r .next) (r .pool) ⌝ }
 {
     let mut pool = [255u8; 256];
     let mut next = from;

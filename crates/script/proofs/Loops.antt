@@ -1,7 +1,8 @@
 -- A section's loop: where it begins, a line more, a line that is refused, and the line that ends it. What is known of a section, `Kept`: what
 -- `runs` says of its frames is what they are judged to be, and what is taken is stored.
 -- Assumes nothing.
-use Prim.Native.Nat.{ℕ, suc}
+use Prim.Native.Nat.{ℕ, suc, _+_}
+use native.Mathlib.Numerals.{add-one}
 use mathlib.Core.Path.{_≡_, refl, sym, ap, _∙_, subst}
 use mathlib.Core.Option.{none}
 use mathlib.Core.List.{List, [], _∷_, _++_}
@@ -27,7 +28,7 @@ pub record Judges (x : ℕ) (R : Reader) (o : Took Reader) : Type 0 where
 -- of the lines of section k: how a frame is judged, the element that line n of frame f is, what the code knows of the frame besides, and how
 -- it is stored
 pub record Kept {A T : Type 0} (Holds : List A → T → Type 0) (grow : Reader → List A → Reader) (Has : Package → Reader → Type 0) (k : ℕ) (judge : T → Frame → ℕ) (of : ℕ → List ℕ → A) (Known : Frame → Type 0) (store : T → ℕ → Frame → T) : Type 0 where
-  pub judges : (P : Package) (R : Reader) → Has P R → (xs : List A) (x : T) → Holds xs x → (n : ℕ) (f : List ℕ) → Known (packFrame f) → rowOf (byte f 0) .section ≡ k
+  pub judges : (P : Package) (R : Reader) → Has P R → (xs : List A) (x : T) → Holds xs x → (n : ℕ) (f : List ℕ) → rowOf (byte f 0) .section ≡ k
       → Judges (judge x (packFrame f)) (inSection k (grow R (xs ++ (of n f ∷ [])))) (takeFrame P (inSection k (grow R xs)) n f)
   pub stores : (xs : List A) (x : T) → Holds xs x → (n : ℕ) (f : List ℕ) → Known (packFrame f) → rowOf (byte f 0) .section ≡ k → judge x (packFrame f) ≡ 0
       → Holds (xs ++ (of n f ∷ [])) (store x n (packFrame f))
@@ -40,11 +41,8 @@ module _ {A T : Type 0} {Holds : List A → T → Type 0} {grow : Reader → Lis
   going-past g p = record { going = g; past = p }
 
   module _ {judge : T → Frame → ℕ} {of : ℕ → List ℕ → A} {Known : Frame → Type 0} {store : T → ℕ → Frame → T} (K : Kept Holds grow Has k judge of Known store)
-      {next : Cursor} {x : T} (g : Going Holds grow Has k s from base next x) {r : Cut} (d : Found s next k r) (known : Known (r .frame)) {no : ℕ} (j : no ≡ judge x (r .frame))
+      {next : Cursor} {x : T} (g : Going Holds grow Has k s from base next x) {r : Cut} (d : Found s next k r) {no : ℕ} (j : no ≡ judge x (r .frame))
     where
-      known-so : Known (packFrame (d .taken .f))
-      known-so = subst Known (d .taken .frame) known
-
       judged-so : no ≡ judge x (packFrame (d .taken .f))
       judged-so = j ∙ ap (judge x) (d .taken .frame)
 
@@ -52,14 +50,17 @@ module _ {A T : Type 0} {Holds : List A → T → Type 0} {grow : Reader → Lis
           → Judges no (inSection k (grow R (g .list ++ (of (suc (next .line)) (d .taken .f) ∷ [])))) (takeFrame P (inSection k (grow R (g .list))) (suc (next .line)) (d .taken .f))
       line-judges P R h =
           subst (λ (n : ℕ). Judges n (inSection k (grow R (g .list ++ (of (suc (next .line)) (d .taken .f) ∷ [])))) (takeFrame P (inSection k (grow R (g .list))) (suc (next .line)) (d .taken .f))) (sym judged-so)
-          (K .judges P R h (g .list) x (g .holds) (suc (next .line)) (d .taken .f) known-so (d .section))
+          (K .judges P R h (g .list) x (g .holds) (suc (next .line)) (d .taken .f) (d .section))
 
       -- one line more
-      pub line-on : no ≡ 0 → Going Holds grow Has k s from base (movedTo next (r .next)) (store x (suc (next .line)) (r .frame))
-      line-on z =
+      pub line-on : Known (r .frame) → no ≡ 0 → Going Holds grow Has k s from base (movedTo next (r .next)) (store x (next .line + 1) (r .frame))
+      line-on known z =
           record {
             list = g .list ++ (of (suc (next .line)) (d .taken .f) ∷ []);
-            holds = subst (λ (f : Frame). Holds (g .list ++ (of (suc (next .line)) (d .taken .f) ∷ [])) (store x (suc (next .line)) f)) (sym (d .taken .frame)) (K .stores (g .list) x (g .holds) (suc (next .line)) (d .taken .f) known-so (d .section) (sym judged-so ∙ z));
+            holds =
+                subst (λ (f : Frame). Holds (g .list ++ (of (suc (next .line)) (d .taken .f) ∷ [])) (store x (next .line + 1) f)) (sym (d .taken .frame))
+                (subst (λ (n : ℕ). Holds (g .list ++ (of (suc (next .line)) (d .taken .f) ∷ [])) (store x n (packFrame (d .taken .f)))) (sym (add-one (next .line)))
+                (K .stores (g .list) x (g .holds) (suc (next .line)) (d .taken .f) (subst Known (d .taken .frame) known) (d .section) (sym judged-so ∙ z)));
             within = moved-within (g .within) d;
             same = λ P R h.
                 g .same P R h

@@ -11,18 +11,22 @@ use Rattle.meaning.specs.Lists.{any}
 use Rattle.runs.specs.Machine as M
 use Rattle.runs.specs.Machine.{sameLink, sameLabel, add, addAll}
 use Rattle.runs.specs.Steps.{holds, hasLink}
+use Rattle.runs.specs.Run.{Placed}
 use Rattle.runs.specs.Script.{Reader, startOf}
 use Rattle.runs.proofs.Tests.{decides-sameLink, decides-sameLabel}
 use Rattle.runs.proofs.Sets.{length-addAll}
 use Rattle.tables.specs.Pack.{pad}
 use Rattle.tables.proofs.Pack.{pad-more, viewed}
 use Rattle.state.specs.declared.Link.{Link}
+use Rattle.state.specs.declared.Label.{Label}
 use Rattle.state.specs.View.{noLink, noLabel, linkView, labelView, linksView, frameView, packLink, packLabel, packContexts, packFrames, packPool, pack}
+use Rattle.steps.specs.declared.Step.{Step}
+use Rattle.steps.specs.declared.Steps.{Steps}
 use Rattle.steps.specs.View.{zeroStep}
 use Rattle.steps.specs.Pack.{packStep, packSteps}
 use Rattle.script.specs.declared.link_lines.LinkLines.{LinkLines}
 use Rattle.script.specs.declared.label_lines.LabelLines.{LabelLines}
-use Rattle.script.specs.Lists.{noLinks, packLinks, HoldsLinks, oneLink, noLabels, packLabels, HoldsLabels, oneLabel, noSteps}
+use Rattle.script.specs.Lists.{noLinks, packLinks, HoldsLinks, oneLink, noLabels, packLabels, HoldsLabels, oneLabel, noSteps, HoldsSteps, oneStep}
 use Rattle.script.specs.Answers.{startedWith}
 
 -- ---- empty
@@ -97,6 +101,10 @@ module _ (xs : List M.Link) where
           (λ i. record { at = stored packLink noLink 256 linkSet y (omega (arith, links-short)) i; n = one-longer linkSet y i; lines = one-longer xs y i })
           ∙ (λ i. let ks = set-new sameLink xs y e i in record { at = pad 256 noLink (map packLink ks); n = length ks; lines = length (xs ++ (y ∷ [])) })
 
+  -- the link of a frame
+  pub links-on : {x : LinkLines} → HoldsLinks xs x → {k : Link} {y : M.Link} → k ≡ packLink y → x .lines < 256 → HoldsLinks (xs ++ (y ∷ [])) (oneLink x k)
+  links-on {x} g {k} {y} e h = (λ i. oneLink (g i) (e i)) ∙ links-more y (omega (arith, links-lines g))
+
 -- ---- labels
 
 module _ (xs : List M.Label) where
@@ -131,6 +139,22 @@ module _ (xs : List M.Label) where
       on false e =
           (λ i. record { at = stored packLabel noLabel 544 labelSet y (omega (arith, labels-short)) i; n = one-longer labelSet y i; lines = one-longer xs y i })
           ∙ (λ i. let ks = set-new sameLabel xs y e i in record { at = pad 544 noLabel (map packLabel ks); n = length ks; lines = length (xs ++ (y ∷ [])) })
+
+  pub labels-on : {x : LabelLines} → HoldsLabels xs x → {k : Label} {y : M.Label} → k ≡ packLabel y → x .lines < 32 → HoldsLabels (xs ++ (y ∷ [])) (oneLabel x k)
+  labels-on {x} g {k} {y} e h = (λ i. oneLabel (g i) (e i)) ∙ labels-more y (omega (arith, labels-lines g))
+
+-- ---- steps
+
+module _ (xs : List Placed) where
+  pub steps-count : {x : Steps} → HoldsSteps xs x → x .n ≡ length xs
+  unfolding packSteps
+  steps-count h = rw h
+
+  pub steps-on : {x : Steps} → HoldsSteps xs x → {k : Step} (y : Placed) → k ≡ packStep y → x .n < 1024 → HoldsSteps (xs ++ (y ∷ [])) (oneStep x k)
+  unfolding packSteps
+  steps-on {x} g {k} y e h =
+      (λ i. oneStep (g i) (e i))
+      ∙ (λ i. record { at = stored packStep zeroStep 1024 xs y (omega (arith, steps-count g)) i; n = one-longer xs y i })
 
 -- ---- the start
 

@@ -6,6 +6,7 @@ use mathlib.Core.Bool.{cond}
 use mathlib.Core.List.{List, [], map}
 use lib.ListN.{length, getD, set, replicate}
 use Rattle.meaning.specs.Tables.{Package}
+use Rattle.meaning.specs.Good.{Good}
 use Rattle.runs.specs.Machine as M
 use Rattle.runs.specs.Machine.{sameLink, sameLabel, addAll}
 use Rattle.runs.specs.Steps.{holds, hasLink}
@@ -20,6 +21,7 @@ use Rattle.frames.specs.Judging.{at}
 use Rattle.state.specs.declared.Link.{Link}
 use Rattle.state.specs.declared.Label.{Label}
 use Rattle.state.specs.View.{noLink, noLabel, linkView, linksView, frameView, packLink, packLabel}
+use Rattle.steps.specs.declared.Step.{Step}
 use Rattle.steps.specs.declared.Steps.{Steps}
 use Rattle.steps.specs.View.{zeroStep}
 use Rattle.steps.specs.Pack.{packSteps}
@@ -103,6 +105,9 @@ noSteps = record { at = replicate 1024 zeroStep; n = 0 }
 abbrev pub HoldsSteps : List Placed → Steps → Type 0
 HoldsSteps xs x = x ≡ packSteps xs
 
+abbrev pub oneStep : Steps → Step → Steps
+oneStep x k = record { at = set (x .at) (x .n) k; n = x .n + 1 }
+
 -- what is declared at the numbers of a step's frame
 abbrev pub namedAt : ℕ → Fields → Methods → Frame → Named
 namedAt nc fields methods f =
@@ -117,6 +122,7 @@ namedAt nc fields methods f =
     }
 
 pub record HasDeclared (nc : ℕ) (fs : Fields) (ms : Methods) (P : Package) (R : Reader) : Type 0 where
+  pub good : Good P
   pub classes : length (P .classes) ≡ nc
   pub fields : fs ≡ packFields (P .fields)
   pub methods : ms ≡ packMethods (P .methods)

@@ -1,6 +1,8 @@
 // The section of the lines 11 rr cc.
 use lines::Cursor;
+ghost use mathlib.Core.Path.{_≡_};
 ghost use Prim.Native.Nat.{_≤_};
+ghost use lib.ListN.{replicate};
 ghost use mathlib.Core.List.{[]};
 ghost use Rattle.lines.specs.Cursors.{Within};
 ghost use Rattle.run_frames.proofs.Pools.{Has};
@@ -12,13 +14,19 @@ pub struct ObjectsRead {
     pub pool: [u8; 256],
 }
 
+fn no_objects() -> [u8; 256]
+    ensures { λ r. ⌜ r ≡ replicate 256 0xFF ⌝ }
+{
+    [255u8; 256]
+}
+
 // With nc classes.
 pub(crate) fn read_objects(s: &[u8], from: Cursor, nc: usize) -> ObjectsRead
     requires { ⌜ Within (now s) from ⌝ }
     requires { ⌜ nc ≤ 127 ⌝ }
     ensures { λ r. ⌜ Section Has withObjects (HasClasses nc) 0x11 (now (s .entry)) from [] (r .next) (r .pool) ⌝ }
 {
-    let mut pool = [255u8; 256];
+    let mut pool = no_objects();
     let mut next = from;
     loop {
         let cut = lines::line_of(s, next, 0x11);

@@ -1,51 +1,44 @@
+-- `read_entry` reads line 1: its refusals, and the entry method that it names.
+-- Assumes nothing.
+use mathlib.Core.Path.{refl}
+use borrow.Author.Tests.{not-true, not-false}
+use Rattle.text.proofs.Cuts.{cut-taken, cut-refused}
+use Rattle.script.proofs.Starting.{entry-none, entry-bad, entry-refused, entry-taken}
 use borrow.Author.Needs.{needs}
 use Rattle.script.proofs.entry.read_entry.Statement.{statement}
 use Rattle.script.proofs.entry.read_entry.Tie as tie
-use Rattle.script.proofs.entry.read_entry.Reads as reads
-use Rattle.script.proofs.entry.read_entry.Lts as lts
-use Rattle.run_frames.proofs.entry.judge_entry.Reads as judge-entry-reads
-use Rattle.script.proofs.entry.no_entry.Reads as no-entry-reads
-use Rattle.text.proofs.scan.Reads as scan-reads
 
--- src/entry.rt:25:9
 no-entry-requires : tie.Need-no-entry-requires
 no-entry-requires c κs = search needs
 
--- src/entry.rt:25:9
 returns : tie.Need-returns
-returns c = ?
+returns c = rw (c .no-entry .ensures) (entry-none (c .before .if1 .taken))
 
--- src/entry.rt:27:9
 scan-requires : tie.Need-scan-requires
 scan-requires c κs = search needs
 
--- src/entry.rt:30:9
 no-entry-requires-2 : tie.Need-no-entry-requires-2
 no-entry-requires-2 c κs = search needs
 
--- src/entry.rt:30:9
 returns-2 : tie.Need-returns-2
-returns-2 c = ?
+returns-2 c = rw (c .no-entry2 .ensures) (entry-bad (c .before .before .before .if1 .left) (cut-refused _ 0 (c .before .before .scan .ensures) (not-true _ (c .before .if2 .taken))))
 
--- src/entry.rt:33:9
 judge-entry-requires : tie.Need-judge-entry-requires
 judge-entry-requires c κs = search needs
 
--- src/entry.rt:35:9
 no-entry-requires-3 : tie.Need-no-entry-requires-3
 no-entry-requires-3 c κs = search needs
 
--- src/entry.rt:35:9
 returns-3 : tie.Need-returns-3
-returns-3 c = ?
+returns-3 c =
+    rw (c .no-entry3 .ensures)
+    (entry-refused (cut-taken _ 0 (c .before .before .before .before .before .scan .ensures) (not-false _ (c .before .before .before .before .if2 .left))) (c .before .before .judge-entry .ensures) (c .before .if3 .taken))
 
--- src/entry.rt:39:17
 element-copy-out-t13 : tie.Need-element-copy-out-t13
 element-copy-out-t13 c = search needs
 
--- src/entry.rt:21:1
 returns-4 : tie.Need-returns-4
-returns-4 c = ?
+returns-4 c = entry-taken (cut-taken _ 0 (c .before .before .before .before .before .scan .ensures) (not-false _ (c .before .before .before .before .if2 .left))) (c .before .before .judge-entry .ensures) refl refl (c .before .if3 .left)
 
 pub read-entry-spec : {M : Type 1} → statement M
 read-entry-spec =

@@ -1,63 +1,68 @@
+-- `read_labels` reads its section: with the list so far held, the text reads on from the cursor as it does from the section's start.
+-- Assumes nothing.
+use Prim.Native.Nat.{_-_, _<_}
+use native.Mathlib.Omega.{arith}
+use mathlib.Core.Path.{sym, _∙_}
+use mathlib.Core.List.{[]}
+use lib.ListN.{length}
+use borrow.Author.Needs.{needs}
+use borrow.Author.Tests.{not-true, not-false}
+use Rattle.lines.proofs.Looks.{found, missing, moved-within}
+use Rattle.run_frames.specs.Judging.{judgeLabel}
+use Rattle.run_frames.proofs.Asked.{has-room}
+use Rattle.script.specs.Sections.{Going}
+use Rattle.script.specs.Lists.{HoldsLabels, withLabels, HasObjects}
+use Rattle.script.proofs.Loops.{going-start, going-past, line-refused, line-on}
+use Rattle.script.proofs.Stores.{labels-none, labels-count}
+use Rattle.script.proofs.Known.{labels-kept}
 use Rattle.script.proofs.label_lines.read_labels.Statement.{statement}
 use Rattle.script.proofs.label_lines.read_labels.Tie as tie
-use Rattle.script.proofs.label_lines.read_labels.Reads as reads
-use Rattle.script.proofs.label_lines.read_labels.Lts as lts
-use Rattle.lines.proofs.line_of.Reads as line-of-reads
-use Rattle.lines.proofs.moved.Reads as moved-reads
-use Rattle.run_frames.proofs.labels.judge_label.Reads as judge-label-reads
-use Rattle.run_frames.proofs.labels.label_of.Reads as label-of-reads
-use Rattle.script.proofs.label_lines.no_labels.Reads as no-labels-reads
-use Rattle.script.proofs.label_lines.one_label.Reads as one-label-reads
 
 abbrev Inv-loop : tie.InvT-loop
-Inv-loop s nc pool rows x₀ next₀ x next = ?
+Inv-loop s nc pool rows x₀ next₀ x next = Going HoldsLabels withLabels (HasObjects nc pool rows) 0x14 s next₀ [] next x
 
 abbrev μ-loop : tie.MeasureT-loop
-μ-loop s nc pool rows x₀ next₀ x next = ?
+μ-loop s nc pool rows x₀ next₀ x next = length s - next .at
 
--- src/label_lines.rt:63:9
 no-labels-requires : tie.Need-no-labels-requires Inv-loop μ-loop
-no-labels-requires c κs = ?
+no-labels-requires c κs = search needs
 
--- src/label_lines.rt:65:5
 loop-holds : tie.Need-loop-holds Inv-loop μ-loop
-loop-holds c = ?
+loop-holds c = going-start (c .no-labels .ensures ∙ labels-none) (c .before .before .pre)
 
--- src/label_lines.rt:66:13
 line-of-requires : tie.Need-line-of-requires Inv-loop μ-loop
-line-of-requires c κs = ?
+line-of-requires c κs = search needs
 
--- src/label_lines.rt:69:13
 returns : tie.Need-returns Inv-loop μ-loop
-returns c = ?
+returns c = going-past (c .before .before .loop .inv) (missing _ _ _ (c .before .line-of .ensures) (not-true _ (c .if1 .taken)))
 
--- src/label_lines.rt:73:13
 judge-label-requires : tie.Need-judge-label-requires Inv-loop μ-loop
-judge-label-requires c κs = ?
+judge-label-requires c κs = search needs
 
--- src/label_lines.rt:76:13
 returns-2 : tie.Need-returns-2 Inv-loop μ-loop
-returns-2 c = ?
+returns-2 c = line-refused (labels-kept _ _ _) (c .before .before .before .before .before .loop .inv) (found _ _ _ (c .before .before .before .before .line-of .ensures) (not-false _ (c .before .before .before .if1 .left))) (c .before .judge-label .ensures) (c .if2 .taken)
 
--- src/label_lines.rt:78:13
 label-of-requires : tie.Need-label-of-requires Inv-loop μ-loop
-label-of-requires c κs = ?
+label-of-requires c κs = search needs
 
--- src/label_lines.rt:79:9
 one-label-requires : tie.Need-one-label-requires Inv-loop μ-loop
-one-label-requires c κs = ?
+unfolding judgeLabel
+one-label-requires c κs =
+    let g = c .before .before .before .before .before .before .loop .inv in
+    (labels-count (g .list) (g .holds), has-room _ 32 _ _ _ (sym (c .before .before .judge-label .ensures) ∙ c .before .if2 .left))
 
--- src/label_lines.rt:80:9
 moved-requires : tie.Need-moved-requires Inv-loop μ-loop
-moved-requires c κs = ?
+moved-requires c κs = let d = found _ _ _ (c .before .before .before .before .before .before .line-of .ensures) (not-false _ (c .before .before .before .before .before .if1 .left)) in omega (arith, d .taken .next, c .before .before .before .before .before .before .before .loop .inv .within .line)
 
--- src/label_lines.rt:65:5
 loop-less : tie.Need-loop-less Inv-loop μ-loop
-loop-less c = ?
+loop-less c =
+    let d = found _ _ _ (c .before .before .before .before .before .before .before .line-of .ensures) (not-false _ (c .before .before .before .before .before .before .if1 .left)) in
+    rw (c .moved .ensures) (omega (arith, moved-within (c .before .before .before .before .before .before .before .before .loop .inv .within) d .at, d .taken .next))
 
--- src/label_lines.rt:65:5
 loop-again : tie.Need-loop-again Inv-loop μ-loop
-loop-again c = ?
+loop-again c =
+    rw (c .moved .ensures, c .before .one-label .ensures, c .before .before .label-of .ensures)
+    (line-on (labels-kept _ _ _) (c .before .before .before .before .before .before .before .before .loop .inv) (found _ _ _ (c .before .before .before .before .before .before .before .line-of .ensures) (not-false _ (c .before .before .before .before .before .before .if1 .left))) (c .before .before .before .before .judge-label .ensures) tt (c .before .before .before .if2 .left))
 
 pub read-labels-spec : {M : Type 1} → statement M
 read-labels-spec =

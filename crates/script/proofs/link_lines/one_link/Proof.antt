@@ -1,37 +1,33 @@
-use borrow.Author.Needs.{needs}
+-- `one_link` counts the line, and stores the link where it is not there yet.
+-- Assumes nothing.
+use native.Mathlib.Omega.{arith}
+use mathlib.Core.Path.{sym, _∙_}
+use Rattle.script.specs.Lists.{oneLink}
 use Rattle.script.proofs.link_lines.one_link.Statement.{statement}
 use Rattle.script.proofs.link_lines.one_link.Tie as tie
-use Rattle.script.proofs.link_lines.one_link.Reads as reads
-use Rattle.script.proofs.link_lines.one_link.Lts as lts
-use Rattle.state.proofs.has_link.Reads as has-link-reads
 
--- src/link_lines.rt:50:15
 add-y : tie.Need-add-y
-add-y c = search needs
+add-y c = omega (arith, c .before .before .pre .1)
 
--- src/link_lines.rt:51:8
 has-link-requires : tie.Need-has-link-requires
-has-link-requires c κs = search needs
+has-link-requires c κs = omega (arith, c .before .before .pre .0, c .before .before .pre .1)
 
--- src/link_lines.rt:52:9
 returns : tie.Need-returns
-returns c = ?
+unfolding oneLink
+returns c = rw (sym (c .before .has-link .ensures) ∙ c .if1 .taken)
 
--- src/link_lines.rt:54:5
 mul-k : tie.Need-mul-k
-mul-k c = search needs
+mul-k c = omega (arith, c .before .before .before .before .pre .0, c .before .before .before .before .pre .1)
 
--- src/link_lines.rt:54:5
 element-set-from-k : tie.Need-element-set-from-k
-element-set-from-k c = search needs
+element-set-from-k c = omega (arith, c .before .before .before .before .pre .0, c .before .before .before .before .pre .1)
 
--- src/link_lines.rt:55:11
 add-y-2 : tie.Need-add-y-2
-add-y-2 c = search needs
+add-y-2 c = omega (arith, c .before .before .before .before .pre .0, c .before .before .before .before .pre .1)
 
--- src/link_lines.rt:42:1
 returns-2 : tie.Need-returns-2
-returns-2 c = ?
+unfolding oneLink
+returns-2 c = rw (sym (c .before .has-link .ensures) ∙ c .if1 .left)
 
 pub one-link-spec : {M : Type 1} → statement M
 one-link-spec =

@@ -1,58 +1,71 @@
+-- `read_static_links` reads its section: with the list so far held, the text reads on from the cursor as it does from the section's start.
+-- Assumes nothing.
+use Prim.Native.Nat.{_-_, _<_}
+use native.Mathlib.Omega.{arith}
+use mathlib.Core.Path.{sym, _∙_}
+use mathlib.Core.List.{List}
+use lib.ListN.{length}
+use borrow.Author.Needs.{needs}
+use borrow.Author.Tests.{not-true, not-false}
+use Rattle.runs.specs.Machine.{Link}
+use Rattle.lines.proofs.Looks.{found, missing, moved-within}
+use Rattle.run_frames.specs.Judging.{judgeStaticLink}
+use Rattle.run_frames.proofs.Asked.{has-room}
+use Rattle.script.specs.Sections.{Going}
+use Rattle.script.specs.Lists.{HoldsLinks, withLinks, HasFields}
+use Rattle.script.proofs.Loops.{going-start, going-past, line-refused, line-on}
+use Rattle.script.proofs.Stores.{links-count}
+use Rattle.script.proofs.Known.{static-links-kept}
 use Rattle.script.proofs.link_lines.read_static_links.Statement.{statement}
 use Rattle.script.proofs.link_lines.read_static_links.Tie as tie
-use Rattle.script.proofs.link_lines.read_static_links.Reads as reads
-use Rattle.script.proofs.link_lines.read_static_links.Lts as lts
-use Rattle.lines.proofs.line_of.Reads as line-of-reads
-use Rattle.lines.proofs.moved.Reads as moved-reads
-use Rattle.run_frames.proofs.links.judge_static_link.Reads as judge-static-link-reads
-use Rattle.run_frames.proofs.links.static_link_of.Reads as static-link-of-reads
-use Rattle.script.proofs.link_lines.one_link.Reads as one-link-reads
 
 abbrev Inv-loop : tie.InvT-loop
-Inv-loop s nc fields pool rows x₀ next₀ x next = ?
+Inv-loop s nc fields pool rows x₀ next₀ x next = (ks : List Link) → HoldsLinks ks x₀ → Going HoldsLinks withLinks (HasFields nc fields pool rows) 0x12 s next₀ ks next x
 
 abbrev μ-loop : tie.MeasureT-loop
-μ-loop s nc fields pool rows x₀ next₀ x next = ?
+μ-loop s nc fields pool rows x₀ next₀ x next = length s - next .at
 
--- src/link_lines.rt:75:5
 loop-holds : tie.Need-loop-holds Inv-loop μ-loop
-loop-holds c = ?
+loop-holds c = λ ks h. going-start h (c .before .pre .0)
 
--- src/link_lines.rt:76:13
 line-of-requires : tie.Need-line-of-requires Inv-loop μ-loop
-line-of-requires c κs = ?
+line-of-requires c κs = search needs
 
--- src/link_lines.rt:79:13
 returns : tie.Need-returns Inv-loop μ-loop
-returns c = ?
+returns c = λ ks h. going-past (c .before .before .loop .inv ks h) (missing _ _ _ (c .before .line-of .ensures) (not-true _ (c .if1 .taken)))
 
--- src/link_lines.rt:83:13
 judge-static-link-requires : tie.Need-judge-static-link-requires Inv-loop μ-loop
-judge-static-link-requires c κs = ?
+judge-static-link-requires c κs = search needs
 
--- src/link_lines.rt:86:13
 returns-2 : tie.Need-returns-2 Inv-loop μ-loop
-returns-2 c = ?
+returns-2 c = λ ks h. line-refused (static-links-kept _ _ _ _) (c .before .before .before .before .before .loop .inv ks h) (found _ _ _ (c .before .before .before .before .line-of .ensures) (not-false _ (c .before .before .before .if1 .left))) (c .before .judge-static-link .ensures) (c .if2 .taken)
 
--- src/link_lines.rt:88:13
 static-link-of-requires : tie.Need-static-link-of-requires Inv-loop μ-loop
-static-link-of-requires c κs = ?
+static-link-of-requires c κs = search needs
 
--- src/link_lines.rt:89:9
 one-link-requires : tie.Need-one-link-requires Inv-loop μ-loop
-one-link-requires c κs = ?
+unfolding judgeStaticLink
+one-link-requires c κs =
+    let p = c .before .before .before .before .before .before .before .before .pre .1 in
+    let g = c .before .before .before .before .before .before .loop .inv (p .list) (p .holds) in
+    (links-count (g .list) (g .holds), has-room _ 256 _ _ _ (sym (c .before .before .judge-static-link .ensures) ∙ c .before .if2 .left))
 
--- src/link_lines.rt:90:9
 moved-requires : tie.Need-moved-requires Inv-loop μ-loop
-moved-requires c κs = ?
+moved-requires c κs =
+    let p = c .before .before .before .before .before .before .before .before .before .pre .1 in
+    let d = found _ _ _ (c .before .before .before .before .before .before .line-of .ensures) (not-false _ (c .before .before .before .before .before .if1 .left)) in
+    omega (arith, d .taken .next, c .before .before .before .before .before .before .before .loop .inv (p .list) (p .holds) .within .line)
 
--- src/link_lines.rt:75:5
 loop-less : tie.Need-loop-less Inv-loop μ-loop
-loop-less c = ?
+loop-less c =
+    let p = c .before .before .before .before .before .before .before .before .before .before .pre .1 in
+    let d = found _ _ _ (c .before .before .before .before .before .before .before .line-of .ensures) (not-false _ (c .before .before .before .before .before .before .if1 .left)) in
+    rw (c .moved .ensures) (omega (arith, moved-within (c .before .before .before .before .before .before .before .before .loop .inv (p .list) (p .holds) .within) d .at, d .taken .next))
 
--- src/link_lines.rt:75:5
 loop-again : tie.Need-loop-again Inv-loop μ-loop
-loop-again c = ?
+loop-again c = λ ks h.
+    rw (c .moved .ensures, c .before .one-link .ensures, c .before .before .static-link-of .ensures)
+    (line-on (static-links-kept _ _ _ _) (c .before .before .before .before .before .before .before .before .loop .inv ks h) (found _ _ _ (c .before .before .before .before .before .before .before .line-of .ensures) (not-false _ (c .before .before .before .before .before .before .if1 .left))) (c .before .before .before .before .judge-static-link .ensures) tt (c .before .before .before .if2 .left))
 
 pub read-static-links-spec : {M : Type 1} → statement M
 read-static-links-spec =

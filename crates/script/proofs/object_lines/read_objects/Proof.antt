@@ -1,65 +1,70 @@
+-- `read_objects` reads its section: with the list so far held, the text reads on from the cursor as it does from the section's start.
+-- Assumes nothing.
+use Prim.Native.Nat.{ℕ, _-_, _<_}
+use native.Mathlib.Omega.{arith}
+use mathlib.Core.Path.{subst}
+use mathlib.Core.List.{[]}
+use lib.ListN.{length}
+use borrow.Author.Needs.{needs}
+use borrow.Author.Tests.{not-true, not-false}
+use Rattle.lines.proofs.Looks.{found, missing, moved-within}
+use Rattle.run_frames.proofs.Pools.{Has, has-none}
+use Rattle.script.specs.Sections.{Going}
+use Rattle.script.specs.Lists.{withObjects, HasClasses}
+use Rattle.script.proofs.Loops.{going-start, going-past, line-refused, line-on}
+use Rattle.script.proofs.Known.{objects-kept}
 use Rattle.script.proofs.object_lines.read_objects.Statement.{statement}
 use Rattle.script.proofs.object_lines.read_objects.Tie as tie
-use Rattle.script.proofs.object_lines.read_objects.Reads as reads
-use Rattle.script.proofs.object_lines.read_objects.Lts as lts
-use Rattle.lines.proofs.line_of.Reads as line-of-reads
-use Rattle.lines.proofs.moved.Reads as moved-reads
-use Rattle.lines.proofs.wide.Reads as wide-reads
-use Rattle.run_frames.proofs.objects.judge_object.Reads as judge-object-reads
 
 abbrev Inv-loop : tie.InvT-loop
-Inv-loop s nc pool₀ next₀ pool next = ?
+Inv-loop s nc pool₀ next₀ pool next = Going Has withObjects (HasClasses nc) 0x11 s next₀ [] next pool
 
 abbrev μ-loop : tie.MeasureT-loop
-μ-loop s nc pool₀ next₀ pool next = ?
+μ-loop s nc pool₀ next₀ pool next = length s - next .at
 
--- src/object_lines.rt:23:5
+no-objects-requires : tie.Need-no-objects-requires Inv-loop μ-loop
+no-objects-requires c κs = search needs
+
 loop-holds : tie.Need-loop-holds Inv-loop μ-loop
-loop-holds c = ?
+loop-holds c = going-start (rw (c .no-objects .ensures) has-none) (c .before .before .pre .0)
 
--- src/object_lines.rt:24:13
 line-of-requires : tie.Need-line-of-requires Inv-loop μ-loop
-line-of-requires c κs = ?
+line-of-requires c κs = search needs
 
--- src/object_lines.rt:27:13
 returns : tie.Need-returns Inv-loop μ-loop
-returns c = ?
+returns c = going-past (c .before .before .loop .inv) (missing _ _ _ (c .before .line-of .ensures) (not-true _ (c .if1 .taken)))
 
--- src/object_lines.rt:30:13
 judge-object-requires : tie.Need-judge-object-requires Inv-loop μ-loop
-judge-object-requires c κs = ?
+judge-object-requires c κs = search needs
 
--- src/object_lines.rt:33:13
 returns-2 : tie.Need-returns-2 Inv-loop μ-loop
-returns-2 c = ?
+returns-2 c = line-refused (objects-kept _ (c .before .before .before .before .before .before .before .before .pre .1)) (c .before .before .before .before .before .loop .inv) (found _ _ _ (c .before .before .before .before .line-of .ensures) (not-false _ (c .before .before .before .if1 .left))) (c .before .judge-object .ensures) (c .if2 .taken)
 
--- src/object_lines.rt:35:29
 element-copy-out-wide : tie.Need-element-copy-out-wide Inv-loop μ-loop
-element-copy-out-wide c = ?
+element-copy-out-wide c = search needs
 
--- src/object_lines.rt:35:13
 wide-requires : tie.Need-wide-requires Inv-loop μ-loop
-wide-requires c κs = ?
+wide-requires c κs = search needs
 
--- src/object_lines.rt:36:19
 element-copy-out-pool : tie.Need-element-copy-out-pool Inv-loop μ-loop
-element-copy-out-pool c = ?
+element-copy-out-pool c = search needs
 
--- src/object_lines.rt:36:9
 array-write-pool : tie.Need-array-write-pool Inv-loop μ-loop
-array-write-pool c = ?
+array-write-pool c = c .before .wide .ensures .1
 
--- src/object_lines.rt:37:9
 moved-requires : tie.Need-moved-requires Inv-loop μ-loop
-moved-requires c κs = ?
+moved-requires c κs = let d = found _ _ _ (c .before .before .before .before .before .before .before .line-of .ensures) (not-false _ (c .before .before .before .before .before .before .if1 .left)) in omega (arith, d .taken .next, c .before .before .before .before .before .before .before .before .loop .inv .within .line)
 
--- src/object_lines.rt:23:5
 loop-less : tie.Need-loop-less Inv-loop μ-loop
-loop-less c = ?
+loop-less c =
+    let d = found _ _ _ (c .before .before .before .before .before .before .before .before .line-of .ensures) (not-false _ (c .before .before .before .before .before .before .before .if1 .left)) in
+    rw (c .moved .ensures) (omega (arith, moved-within (c .before .before .before .before .before .before .before .before .before .loop .inv .within) d .at, d .taken .next))
 
--- src/object_lines.rt:23:5
 loop-again : tie.Need-loop-again Inv-loop μ-loop
-loop-again c = ?
+loop-again c =
+    let w = c .before .before .wide .ensures in
+    rw (c .moved .ensures, w .0)
+    (line-on (objects-kept _ (c .before .before .before .before .before .before .before .before .before .before .before .before .pre .1)) (c .before .before .before .before .before .before .before .before .before .loop .inv) (found _ _ _ (c .before .before .before .before .before .before .before .before .line-of .ensures) (not-false _ (c .before .before .before .before .before .before .before .if1 .left))) (c .before .before .before .before .before .judge-object .ensures) (subst (λ (x : ℕ). x < 256) (w .0) (w .1)) (c .before .before .before .before .if2 .left))
 
 pub read-objects-spec : {M : Type 1} → statement M
 read-objects-spec =
@@ -67,6 +72,7 @@ read-objects-spec =
     (tie.spec
     Inv-loop
     μ-loop
+    no-objects-requires
     loop-holds
     line-of-requires
     returns

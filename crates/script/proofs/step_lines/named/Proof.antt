@@ -5,49 +5,38 @@ use Rattle.script.proofs.step_lines.named.Reads as reads
 use Rattle.script.proofs.step_lines.named.Lts as lts
 use Rattle.lines.proofs.wide.Reads as wide-reads
 
--- src/step_lines.rt:39:25
 element-copy-out-wide : tie.Need-element-copy-out-wide
 element-copy-out-wide c = search needs
 
--- src/step_lines.rt:39:9
 wide-requires : tie.Need-wide-requires
 wide-requires c κs = search needs
 
--- src/step_lines.rt:40:25
 element-copy-out-wide-2 : tie.Need-element-copy-out-wide-2
 element-copy-out-wide-2 c = search needs
 
--- src/step_lines.rt:40:9
 wide-requires-2 : tie.Need-wide-requires-2
 wide-requires-2 c κs = search needs
 
--- src/step_lines.rt:41:17
 mul-field : tie.Need-mul-field
 mul-field c = search needs
 
--- src/step_lines.rt:41:17
 element-copy-out-field : tie.Need-element-copy-out-field
 element-copy-out-field c = search needs
 
--- src/step_lines.rt:42:18
 mul-called : tie.Need-mul-called
 mul-called c = search needs
 
--- src/step_lines.rt:42:18
 element-copy-out-called : tie.Need-element-copy-out-called
 element-copy-out-called c = search needs
 
--- src/step_lines.rt:43:16
 mul-runs : tie.Need-mul-runs
 mul-runs c = search needs
 
--- src/step_lines.rt:43:16
 element-copy-out-runs : tie.Need-element-copy-out-runs
 element-copy-out-runs c = search needs
 
--- src/step_lines.rt:36:1
 returns : tie.Need-returns
-returns c = ?
+returns c = rw (c .before .before .before .before .before .wide .ensures .0, c .before .before .before .wide2 .ensures .0)
 
 pub named-spec : {M : Type 1} → statement M
 named-spec =

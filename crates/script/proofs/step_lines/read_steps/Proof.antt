@@ -1,79 +1,85 @@
+-- `read_steps` reads its section: with the list so far held, the text reads on from the cursor as it does from the section's start.
+-- Assumes nothing.
+use Prim.Native.Nat.{_-_, _<_}
+use native.Mathlib.Omega.{arith}
+use mathlib.Core.Path.{_≡_, sym, ap, _∙_}
+use mathlib.Core.List.{[]}
+use lib.ListN.{length}
+use borrow.Author.Needs.{needs}
+use borrow.Author.Tests.{not-true, not-false}
+use Rattle.lines.proofs.Looks.{found, missing, moved-within}
+use Rattle.run_frames.specs.declared.step.Named.{Named}
+use Rattle.run_frames.specs.Judging.{judgeStep}
+use Rattle.run_frames.proofs.Asked.{has-room}
+use Rattle.script.specs.Sections.{Going}
+use Rattle.script.specs.Lists.{HoldsSteps, withSteps, HasDeclared}
+use Rattle.script.proofs.Loops.{going-start, going-past, line-refused, line-on}
+use Rattle.script.proofs.Stores.{steps-none}
+use Rattle.script.proofs.Known.{steps-kept}
 use Rattle.script.proofs.step_lines.read_steps.Statement.{statement}
 use Rattle.script.proofs.step_lines.read_steps.Tie as tie
-use Rattle.script.proofs.step_lines.read_steps.Reads as reads
-use Rattle.script.proofs.step_lines.read_steps.Lts as lts
-use Rattle.lines.proofs.line_of.Reads as line-of-reads
-use Rattle.lines.proofs.moved.Reads as moved-reads
-use Rattle.run_frames.proofs.step.judge_step.Reads as judge-step-reads
-use Rattle.run_frames.proofs.step.step_of.Reads as step-of-reads
-use Rattle.script.proofs.step_lines.named.Reads as named-reads
-use Rattle.script.proofs.step_lines.no_steps.Reads as no-steps-reads
 
 abbrev Inv-loop : tie.InvT-loop
-Inv-loop s nc fields methods x₀ next₀ x next = ?
+Inv-loop s nc fields methods x₀ next₀ x next = Going HoldsSteps withSteps (HasDeclared nc fields methods) 0x20 s next₀ [] next x
 
 abbrev μ-loop : tie.MeasureT-loop
-μ-loop s nc fields methods x₀ next₀ x next = ?
+μ-loop s nc fields methods x₀ next₀ x next = length s - next .at
 
--- src/step_lines.rt:67:17
 no-steps-requires : tie.Need-no-steps-requires Inv-loop μ-loop
-no-steps-requires c κs = ?
+no-steps-requires c κs = search needs
 
--- src/step_lines.rt:69:5
 loop-holds : tie.Need-loop-holds Inv-loop μ-loop
-loop-holds c = ?
+loop-holds c = going-start (c .no-steps .ensures ∙ steps-none) (c .before .before .pre .0)
 
--- src/step_lines.rt:70:13
 line-of-requires : tie.Need-line-of-requires Inv-loop μ-loop
-line-of-requires c κs = ?
+line-of-requires c κs = search needs
 
--- src/step_lines.rt:73:13
 returns : tie.Need-returns Inv-loop μ-loop
-returns c = ?
+returns c = going-past (c .before .before .loop .inv) (missing _ _ _ (c .before .line-of .ensures) (not-true _ (c .if1 .taken)))
 
--- src/step_lines.rt:77:13
 named-requires : tie.Need-named-requires Inv-loop μ-loop
-named-requires c κs = ?
+named-requires c κs = search needs
 
--- src/step_lines.rt:78:13
 judge-step-requires : tie.Need-judge-step-requires Inv-loop μ-loop
-judge-step-requires c κs = ?
+judge-step-requires c κs = search needs
 
--- src/step_lines.rt:81:13
 returns-2 : tie.Need-returns-2 Inv-loop μ-loop
-returns-2 c = ?
+returns-2 c =
+    line-refused (steps-kept _ _ _) (c .before .before .before .before .before .before .loop .inv) (found _ _ _ (c .before .before .before .before .before .line-of .ensures) (not-false _ (c .before .before .before .before .if1 .left)))
+    (c .before .judge-step .ensures ∙ ap (λ (d : Named). judgeStep d _ _) (c .before .before .named .ensures)) (c .if2 .taken)
 
--- src/step_lines.rt:83:9
 moved-requires : tie.Need-moved-requires Inv-loop μ-loop
-moved-requires c κs = ?
+moved-requires c κs = let d = found _ _ _ (c .before .before .before .before .before .line-of .ensures) (not-false _ (c .before .before .before .before .if1 .left)) in omega (arith, d .taken .next, c .before .before .before .before .before .before .loop .inv .within .line)
 
--- src/step_lines.rt:84:48
 cast-step-of : tie.Need-cast-step-of Inv-loop μ-loop
-cast-step-of c = ?
+cast-step-of c = rw (c .before .moved .ensures) (let w = c .before .before .before .before .before .before .before .before .loop .inv .within in omega (arith, w .at, w .line, c .before .before .before .before .before .before .before .before .before .before .before .pre .1))
 
--- src/step_lines.rt:84:19
 step-of-requires : tie.Need-step-of-requires Inv-loop μ-loop
-step-of-requires c κs = ?
+step-of-requires c κs = search needs
 
--- src/step_lines.rt:84:9
+room : (c : tie.After-step-of Inv-loop μ-loop) → c .before .before .before .before .before .before .before .before .before .loop .x .n < 1024
+unfolding judgeStep
+room c = has-room _ 1024 _ _ _ (sym (c .before .before .before .before .judge-step .ensures) ∙ c .before .before .before .if2 .left)
+
 mul-t20 : tie.Need-mul-t20 Inv-loop μ-loop
-mul-t20 c = ?
+mul-t20 c = omega (arith, room c)
 
--- src/step_lines.rt:84:9
 element-set-from-x : tie.Need-element-set-from-x Inv-loop μ-loop
-element-set-from-x c = ?
+element-set-from-x c = room c
 
--- src/step_lines.rt:85:15
 add-x : tie.Need-add-x Inv-loop μ-loop
-add-x c = ?
+add-x c = omega (arith, room c)
 
--- src/step_lines.rt:69:5
 loop-less : tie.Need-loop-less Inv-loop μ-loop
-loop-less c = ?
+loop-less c =
+    let d = found _ _ _ (c .before .before .before .before .before .before .before .before .line-of .ensures) (not-false _ (c .before .before .before .before .before .before .before .if1 .left)) in
+    rw (c .before .before .moved .ensures) (omega (arith, moved-within (c .before .before .before .before .before .before .before .before .before .loop .inv .within) d .at, d .taken .next))
 
--- src/step_lines.rt:69:5
 loop-again : tie.Need-loop-again Inv-loop μ-loop
-loop-again c = ?
+loop-again c =
+    rw (c .step-of .ensures, c .before .before .moved .ensures)
+    (line-on (steps-kept _ _ _) (c .before .before .before .before .before .before .before .before .before .loop .inv) (found _ _ _ (c .before .before .before .before .before .before .before .before .line-of .ensures) (not-false _ (c .before .before .before .before .before .before .before .if1 .left)))
+    (c .before .before .before .before .judge-step .ensures ∙ ap (λ (d : Named). judgeStep d _ _) (c .before .before .before .before .before .named .ensures)) tt (c .before .before .before .if2 .left))
 
 pub read-steps-spec : {M : Type 1} → statement M
 read-steps-spec =

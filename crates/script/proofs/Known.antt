@@ -12,15 +12,17 @@ use Rattle.meaning.specs.Text.{byte}
 use Rattle.meaning.specs.Kinds.{rowOf, follows}
 use Rattle.meaning.specs.Tables.{Package}
 use Rattle.meaning.specs.Reading.{Took, takes}
+use Rattle.text.specs.declared.Frame.{Frame}
 use Rattle.text.specs.Scan.{packFrame}
 use Rattle.text.proofs.Packed.{first-at}
 use Rattle.runs.specs.Machine.{object}
 use Rattle.runs.specs.Script.{Reader, takeObject, takeStaticLink, takeObjectLink, takeLabel, takeStep, takeLater, takeFrame}
 use Rattle.tables.specs.declared.Fields.{Fields}
 use Rattle.tables.specs.declared.Methods.{Methods}
-use Rattle.tables.specs.View.{zeroField, zeroMethod}
+use Rattle.tables.specs.View.{zeroField}
 use Rattle.frames.specs.Judging.{at}
 use Rattle.steps.specs.View.{stepView}
+use Rattle.run_frames.specs.declared.step.Named.{Named}
 use Rattle.run_frames.specs.Judging.{judgeObject, judgeStaticLink, judgeObjectLink, judgeLabel, judgeStep}
 use Rattle.run_frames.specs.Elements.{staticLinkIn, staticLinkOf, objectLinkIn, objectLinkOf, labelIn, labelOf, placedIn}
 use Rattle.run_frames.proofs.Asked.{judged, judged-taken, judged-refused, has-room}
@@ -30,7 +32,7 @@ use Rattle.run_frames.proofs.Named as N
 use Rattle.run_frames.proofs.Named.{Names, names-at, step-judged}
 use Rattle.run_frames.proofs.Elements.{has-more, static-link-packed, object-link-packed, label-packed, step-packed}
 use Rattle.script.specs.Sections.{inSection}
-use Rattle.script.specs.Lists.{withObjects, HasClasses, HoldsLinks, oneLink, withLinks, HasFields, HoldsLabels, oneLabel, withLabels, HasObjects, HoldsSteps, oneStep, namedAt, withSteps, HasDeclared}
+use Rattle.script.specs.Lists.{withObjects, HasClasses, HoldsLinks, oneLink, withLinks, HasFields, HoldsLabels, oneLabel, withLabels, HasObjects, HoldsSteps, oneStep, noMethod, namedAt, withSteps, HasDeclared}
 use Rattle.script.proofs.Order.{kind-is, step-kind}
 use Rattle.script.proofs.Loops.{Judges, Kept}
 use Rattle.script.proofs.Stores.{links-lines, links-on, labels-lines, labels-on, steps-count, steps-on}
@@ -68,6 +70,10 @@ module _ (P : Package) (Q : Reader) (n : ℕ) (f : List ℕ) where
 
 by-judge : {x y : ℕ} {R : Reader} {o : Took Reader} → o ≡ judged x (takes R) → y ≡ x → Judges y R o
 by-judge {x} {y} {R} {o} e q = record { taken = λ z. e ∙ judged-taken x (takes R) (sym q ∙ z); refused = λ z. e ∙ judged-refused x (takes R) (λ w. z (q ∙ w)) ∙ rw q }
+
+-- the code judges by what it found
+pub by-names : (n : ℕ) (f : Frame) {d e : Named} {no : ℕ} → no ≡ judgeStep d n f → d ≡ e → no ≡ judgeStep e n f
+by-names n f j q = j ∙ ap (λ (d : Named). judgeStep d n f) q
 
 -- ---- the sections
 
@@ -126,6 +132,6 @@ module _ (nc : ℕ) (fs : Fields) (ms : Methods) where
     where
       names : (P : Package) (R : Reader) → HasDeclared nc fs ms P R → (f : List ℕ) → Names P f (namedAt nc fs ms (packFrame f))
       names P R h f =
-          subst (λ (i : ℕ). Names P f (N.namedAt nc fs ms i (at (packFrame f) 2) zeroField zeroMethod zeroMethod)) (sym (first-at 16 f 1 (lit< tt)))
-          (subst (λ (j : ℕ). Names P f (N.namedAt nc fs ms (byte f 1) j zeroField zeroMethod zeroMethod)) (sym (first-at 16 f 2 (lit< tt)))
-          (names-at P (sym (h .classes)) (h .fields) (h .methods) f zeroField zeroMethod zeroMethod))
+          subst (λ (i : ℕ). Names P f (N.namedAt nc fs ms i (at (packFrame f) 2) zeroField noMethod noMethod)) (sym (first-at 16 f 1 (lit< tt)))
+          (subst (λ (j : ℕ). Names P f (N.namedAt nc fs ms (byte f 1) j zeroField noMethod noMethod)) (sym (first-at 16 f 2 (lit< tt)))
+          (names-at P (sym (h .classes)) (h .fields) (h .methods) f zeroField noMethod noMethod))

@@ -5,3 +5,4 @@ pub mod Stores
 pub mod Known
 pub mod Starting
 pub mod Ending
+pub mod Whole

@@ -14,8 +14,9 @@ use Rattle.runs.specs.Run.{Placed}
 use Rattle.runs.specs.Script.{Reader}
 use Rattle.text.specs.declared.Frame.{Frame}
 use Rattle.tables.specs.declared.Fields.{Fields}
+use Rattle.tables.specs.declared.Method.{Method}
 use Rattle.tables.specs.declared.Methods.{Methods}
-use Rattle.tables.specs.View.{zeroField, zeroMethod}
+use Rattle.tables.specs.View.{zeroField}
 use Rattle.tables.specs.Pack.{pad, packFields, packMethods}
 use Rattle.frames.specs.Judging.{at}
 use Rattle.state.specs.declared.Link.{Link}
@@ -108,6 +109,10 @@ HoldsSteps xs x = x ≡ packSteps xs
 abbrev pub oneStep : Steps → Step → Steps
 oneStep x k = record { at = set (x .at) (x .n) k; n = x .n + 1 }
 
+-- behind the places of an array
+abbrev pub noMethod : Method
+noMethod = record { class = 0; label = 0; stat = 0; slot = 0; result = 0; k = 0; params = [] }
+
 -- what is declared at the numbers of a step's frame
 abbrev pub namedAt : ℕ → Fields → Methods → Frame → Named
 namedAt nc fields methods f =
@@ -116,9 +121,9 @@ namedAt nc fields methods f =
       fields = fields .n;
       methods = methods .n;
       field = (getD (fields .at) (at f 1) zeroField) .stat;
-      called = (getD (methods .at) (at f 1) zeroMethod) .stat;
-      k = (getD (methods .at) (at f 1) zeroMethod) .k;
-      runs = (getD (methods .at) (at f 2) zeroMethod) .stat;
+      called = (getD (methods .at) (at f 1) noMethod) .stat;
+      k = (getD (methods .at) (at f 1) noMethod) .k;
+      runs = (getD (methods .at) (at f 2) noMethod) .stat;
     }
 
 pub record HasDeclared (nc : ℕ) (fs : Fields) (ms : Methods) (P : Package) (R : Reader) : Type 0 where

@@ -2,20 +2,19 @@
 -- Assumes nothing.
 use Prim.Native.Nat.{_-_, _<_}
 use native.Mathlib.Omega.{arith}
-use mathlib.Core.Path.{_≡_, sym, ap, _∙_}
+use mathlib.Core.Path.{sym, _∙_}
 use mathlib.Core.List.{[]}
 use lib.ListN.{length}
 use borrow.Author.Needs.{needs}
 use borrow.Author.Tests.{not-true, not-false}
 use Rattle.lines.proofs.Looks.{found, missing, moved-within}
-use Rattle.run_frames.specs.declared.step.Named.{Named}
 use Rattle.run_frames.specs.Judging.{judgeStep}
 use Rattle.run_frames.proofs.Asked.{has-room}
 use Rattle.script.specs.Sections.{Going}
 use Rattle.script.specs.Lists.{HoldsSteps, withSteps, HasDeclared}
 use Rattle.script.proofs.Loops.{going-start, going-past, line-refused, line-on}
 use Rattle.script.proofs.Stores.{steps-none}
-use Rattle.script.proofs.Known.{steps-kept}
+use Rattle.script.proofs.Known.{by-names, steps-kept}
 use Rattle.script.proofs.step_lines.read_steps.Statement.{statement}
 use Rattle.script.proofs.step_lines.read_steps.Tie as tie
 
@@ -46,7 +45,7 @@ judge-step-requires c κs = search needs
 returns-2 : tie.Need-returns-2 Inv-loop μ-loop
 returns-2 c =
     line-refused (steps-kept _ _ _) (c .before .before .before .before .before .before .loop .inv) (found _ _ _ (c .before .before .before .before .before .line-of .ensures) (not-false _ (c .before .before .before .before .if1 .left)))
-    (c .before .judge-step .ensures ∙ ap (λ (d : Named). judgeStep d _ _) (c .before .before .named .ensures)) (c .if2 .taken)
+    (by-names (c .before .before .before .before .before .before .loop .x .n) (c .before .before .before .before .before .line-of .result .frame) (c .before .judge-step .ensures) (c .before .before .named .ensures)) (c .if2 .taken)
 
 moved-requires : tie.Need-moved-requires Inv-loop μ-loop
 moved-requires c κs = let d = found _ _ _ (c .before .before .before .before .before .line-of .ensures) (not-false _ (c .before .before .before .before .if1 .left)) in omega (arith, d .taken .next, c .before .before .before .before .before .before .loop .inv .within .line)
@@ -79,7 +78,7 @@ loop-again : tie.Need-loop-again Inv-loop μ-loop
 loop-again c =
     rw (c .step-of .ensures, c .before .before .moved .ensures)
     (line-on (steps-kept _ _ _) (c .before .before .before .before .before .before .before .before .before .loop .inv) (found _ _ _ (c .before .before .before .before .before .before .before .before .line-of .ensures) (not-false _ (c .before .before .before .before .before .before .before .if1 .left)))
-    (c .before .before .before .before .judge-step .ensures ∙ ap (λ (d : Named). judgeStep d _ _) (c .before .before .before .before .before .named .ensures)) tt (c .before .before .before .if2 .left))
+    (by-names (c .before .before .before .before .before .before .before .before .before .loop .x .n) (c .before .before .before .before .before .before .before .before .line-of .result .frame) (c .before .before .before .before .judge-step .ensures) (c .before .before .before .before .before .named .ensures)) tt (c .before .before .before .if2 .left))
 
 pub read-steps-spec : {M : Type 1} → statement M
 read-steps-spec =

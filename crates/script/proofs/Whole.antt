@@ -21,6 +21,7 @@ use Rattle.tables.specs.View.{view}
 use Rattle.tables.specs.Pack.{packClasses, packFields, packMethods, pack}
 use Rattle.tables.specs.Held.{Held}
 use Rattle.steps.specs.declared.Steps.{Steps}
+use Rattle.steps.specs.Pack.{packSteps}
 use Rattle.moves.specs.Below.{Supers}
 use Rattle.run_frames.proofs.Pools.{Has}
 use Rattle.lines.specs.declared.Cursor.{Cursor}
@@ -114,5 +115,5 @@ module _ {t : Tables} (held : Held t) {rows : List ℕ} (supers : Supers (view t
     unfolding lists
     whole-read z =
         (λ i. record { no = 0; line = 0; start = startedWith (e .method) (o .going .holds .packed i) (b .going .holds i) (l .going .holds i); steps = k .going .holds i })
-        ∙ (λ i. record { no = 0; line = 0; start = start-packed lists i; steps = _ })
+        ∙ (λ i. record { no = 0; line = 0; start = start-packed lists i; steps = packSteps (k .going .list) })
         ∙ rw (whole, eq-eqb (end .no) 0 z)

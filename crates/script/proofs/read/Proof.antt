@@ -1,0 +1,87 @@
+-- `read` is `runs`' reading of the text: over 32,768 bytes 51, and otherwise what the sections read one after the other.
+-- Assumes nothing.
+use native.Mathlib.Numerals.{add-one}
+use native.Mathlib.Omega.{arith}
+use mathlib.Core.Path.{_∙_}
+use mathlib.Core.List.{[]}
+use Rattle.lines.specs.Cursors.{Within}
+use Rattle.script.proofs.Stores.{links-none}
+use Rattle.script.proofs.Whole.{read-large, few-classes, links-so-far, whole-refused, whole-read}
+use borrow.Author.Needs.{needs}
+use Rattle.script.proofs.read.Statement.{statement}
+use Rattle.script.proofs.read.Tie as tie
+
+refused-requires : tie.Need-refused-requires
+refused-requires c κs = search needs
+
+returns : tie.Need-returns
+returns c = rw (c .refused .ensures, read-large _ _ (c .before .if1 .taken))
+
+read-entry-requires : tie.Need-read-entry-requires
+read-entry-requires c κs = search needs
+
+read-objects-requires : tie.Need-read-objects-requires
+read-objects-requires c κs = (c .read-entry .ensures .within, few-classes (c .before .before .before .before .before .pre .0))
+
+no-links-requires : tie.Need-no-links-requires
+no-links-requires c κs = search needs
+
+read-static-links-requires : tie.Need-read-static-links-requires
+read-static-links-requires c κs = (c .before .before .read-objects .ensures .going .within, record { list = []; holds = c .no-links .ensures ∙ links-none })
+
+read-object-links-requires : tie.Need-read-object-links-requires
+read-object-links-requires c κs = let a = c .before .read-static-links .ensures [] (c .before .before .no-links .ensures ∙ links-none) in (a .going .within, links-so-far a)
+
+read-labels-requires : tie.Need-read-labels-requires
+read-labels-requires c κs =
+    let a = c .before .before .read-static-links .ensures [] (c .before .before .before .no-links .ensures ∙ links-none) in
+    c .read-object-links .ensures (a .going .list) (a .going .holds) .going .within
+
+read-steps-requires : tie.Need-read-steps-requires
+read-steps-requires c κs = (c .read-labels .ensures .going .within, c .before .before .before .before .before .before .before .before .before .before .if1 .left)
+
+read-end-requires : tie.Need-read-end-requires
+read-end-requires c κs = search needs
+
+add-refused : tie.Need-add-refused
+add-refused c = let w : Within (c .before .before .before .before .before .before .before .before .before .before .before .before .before .before .before .before .before .args .s .now) (c .before .before .before .read-end .result) = c .before .before .before .read-end .ensures .within in omega (arith, w .at, w .line, c .before .before .before .before .before .before .before .before .before .before .before .before .before .before .before .if1 .left)
+
+refused-requires-2 : tie.Need-refused-requires-2
+refused-requires-2 c κs = search needs
+
+returns-2 : tie.Need-returns-2
+returns-2 c =
+    let a = c .before .before .before .before .before .before .before .before .before .read-static-links .ensures [] (c .before .before .before .before .before .before .before .before .before .before .no-links .ensures ∙ links-none) in
+    let b = c .before .before .before .before .before .before .before .read-object-links .ensures (a .going .list) (a .going .holds) in
+    c .refused2 .ensures
+    ∙ rw (whole-refused (c .before .before .before .before .before .before .before .before .before .before .before .before .before .before .before .before .before .before .pre .0) (c .before .before .before .before .before .before .before .before .before .before .before .before .before .before .before .before .before .before .pre .1) (c .before .before .before .before .before .before .before .before .before .before .before .before .before .before .before .before .if1 .left) (c .before .before .before .before .before .before .before .before .before .before .before .before .before .read-entry .ensures) (c .before .before .before .before .before .before .before .before .before .before .before .before .read-objects .ensures) a b (c .before .before .before .before .before .before .read-labels .ensures) (c .before .before .before .before .before .read-steps .ensures) (c .before .before .before .before .read-end .ensures) (c .before .before .if2 .taken), add-one)
+
+started-requires : tie.Need-started-requires
+started-requires c κs = search needs
+
+returns-3 : tie.Need-returns-3
+returns-3 c =
+    let a = c .before .before .before .before .before .before .before .before .before .before .before .read-static-links .ensures [] (c .before .before .before .before .before .before .before .before .before .before .before .before .no-links .ensures ∙ links-none) in
+    let b = c .before .before .before .before .before .before .before .before .before .read-object-links .ensures (a .going .list) (a .going .holds) in
+    rw (c .before .started .ensures)
+    (whole-read (c .before .before .before .before .before .before .before .before .before .before .before .before .before .before .before .before .before .before .before .before .pre .0) (c .before .before .before .before .before .before .before .before .before .before .before .before .before .before .before .before .before .before .before .before .pre .1) (c .before .before .before .before .before .before .before .before .before .before .before .before .before .before .before .before .before .before .if1 .left) (c .before .before .before .before .before .before .before .before .before .before .before .before .before .before .before .read-entry .ensures) (c .before .before .before .before .before .before .before .before .before .before .before .before .before .before .read-objects .ensures) a b (c .before .before .before .before .before .before .before .before .read-labels .ensures) (c .before .before .before .before .before .before .before .read-steps .ensures) (c .before .before .before .before .before .before .read-end .ensures) (c .before .before .before .before .if2 .left))
+
+pub read-spec : {M : Type 1} → statement M
+read-spec =
+    tie.close
+    (tie.spec
+    refused-requires
+    returns
+    read-entry-requires
+    read-objects-requires
+    no-links-requires
+    read-static-links-requires
+    read-object-links-requires
+    read-labels-requires
+    read-steps-requires
+    read-end-requires
+    add-refused
+    refused-requires-2
+    returns-2
+    started-requires
+    returns-3)

@@ -24,10 +24,8 @@ paramsIn m = take (m .k) (m .params)
 
 -- v's row overrides n's, an instance method's: one slot, and a class that is a proper subtype of n's
 unfoldable pub overridesBy : List ℕ → Method → Method → Bool
-unfolding belowBy
 overridesBy rows v n = eqb (v .slot) (n .slot) && (not (eqb (v .class) (n .class)) && belowBy rows (v .class) (n .class))
 
 -- the number v is n, or its row overrides n's
 unfoldable pub runsBy : List ℕ → ℕ → ℕ → Method → Method → Bool
-unfolding overridesBy
 runsBy rows v n runs called = eqb v n || overridesBy rows runs called

@@ -45,7 +45,7 @@ module _ {s : State} (f : Fine s) where
   pub done-same : done s ≡ doneOf s (takes (view s))
   done-same = ap done (f .packed)
 
-  labels-count : length (view s .labels) ≡ s .n
+  pub labels-count : length (view s .labels) ≡ s .n
   unfolding pack
   labels-count = sym (ap (λ (x : State). x .n) (f .packed))
 

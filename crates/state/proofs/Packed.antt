@@ -53,7 +53,7 @@ frames-length (k ∷ ks) s =
     let e : length (map packLabel (k .labels)) ≤ 32 = simp length-map (s k (List·Memᴰ·head refl)) in
     simp (length-append, pad-length noLabel 32 (map packLabel (k .labels)) e, frames-length ks (λ j m. s j (List·Memᴰ·tail m))) (omega arith)
 
-contexts-length : (ks : List M.Saved) → length (packContexts ks) ≡ length ks
+pub contexts-length : (ks : List M.Saved) → length (packContexts ks) ≡ length ks
 unfolding packContexts
 contexts-length [] = refl
 contexts-length (k ∷ ks) = simp (length-append, contexts-length ks) (omega arith)
@@ -81,7 +81,7 @@ saved-back (k ∷ ks) xs ys s =
     )
 
 module _ (t : M.State) (w : Within t) where
-  frames-long : length (packFrames (t .saved)) ≡ 32 * length (t .saved)
+  pub frames-long : length (packFrames (t .saved)) ≡ 32 * length (t .saved)
   frames-long = frames-length (t .saved) (w .frames)
 
   labels-back : frameView (pack t .labels) (length (t .saved)) (length (t .labels)) ≡ t .labels
@@ -111,7 +111,7 @@ module _ (t : M.State) (w : Within t) where
 
 -- ---- what is viewed is packed the same
 
-orFF-again : (c : Option ℕ) → orFF (typeOrNone (orFF c)) ≡ orFF c
+pub orFF-again : (c : Option ℕ) → orFF (typeOrNone (orFF c)) ≡ orFF c
 orFF-again none = refl
 orFF-again (some c) = on (eqb c 0xFF) refl
   where

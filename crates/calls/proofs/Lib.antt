@@ -1,0 +1,4 @@
+pub mod Padded
+pub mod Stacked
+pub mod Arguments
+pub mod Rows

@@ -12,22 +12,20 @@ use lib.ListN.{length, take, drop, getD, length-take, length-drop, drop-of-lengt
 use lib.Seq.{drop-cons, getD-take, getD-drop}
 use Rattle.meaning.specs.Text.{byte}
 use Rattle.meaning.proofs.Bools.{fails-false, true-passes}
-use Rattle.runs.specs.Machine as M
 use Rattle.runs.specs.Machine.{Label, HoldsAll, label, sameLabel, add, addAll, passed, withLabel}
 use Rattle.runs.specs.Steps.{holds, holdsAll}
-use Rattle.runs.specs.Admitted.{Within}
 use Rattle.runs.proofs.Sets.{length-addAll}
 use Rattle.runs.proofs.Tests.{decides-sameLabel, decides-holdsAll}
-use Rattle.runs.proofs.Typing.{within-label}
 use Rattle.tables.specs.declared.Method.{Method}
 use Rattle.steps.specs.View.{argumentsAt}
 use Rattle.state.specs.declared.State.{State}
 use Rattle.state.specs.View.{view, pack}
 use Rattle.state.specs.Fine.{Fine}
-use Rattle.state.proofs.Packed.{tidy, view-pack, pack-tidy, within-fine, fine-within}
+use Rattle.state.proofs.Packed.{fine-within}
 use Rattle.state.proofs.Added.{labels-count}
 use Rattle.calls.specs.Called.{paramsIn}
 use Rattle.calls.specs.Frames.{joined}
+use Rattle.calls.proofs.Meant.{Means, means-fine, means-count, means-joined, means-more}
 
 -- ---- a frame of a step, and the method that it calls
 
@@ -105,11 +103,6 @@ module _ (ls : List Label) (b : List ℕ) (at : ℕ) (m : Method) where
 
 -- ---- a loop has each join
 
--- labels that join a packed state join the state that it means
-pub joins-packed : (u : M.State) → Within u → (x : State) → x ≡ pack u → (ls : List Label) → pack (joined (view x) ls) ≡ pack (joined u ls)
-unfolding joined
-joins-packed u w x e ls = ap (λ (y : State). pack (joined (view y) ls)) e ∙ ap (λ (y : M.State). pack (joined y ls)) (view-pack u w) ∙ pack-tidy (joined u ls)
-
 module _ (s : State) (b : List ℕ) (at : ℕ) (m : Method) where
   -- what comes of joining all comes of joining those from i on to t
   pub record Passing (i : ℕ) (t : State) : Type 0 where
@@ -122,15 +115,16 @@ module _ (s : State) (b : List ℕ) (at : ℕ) (m : Method) where
 
   module _ (a : Asked b at m) (e : byte b at ≡ m .k) (i : ℕ) (t : State) (p : Passing i t) where
     pub passing-more : (x : State) → i < m .k → x ≡ pack (withLabel (view t) (getD b (at + 1 + i) 0) (getD (m .params) i 0)) → Passing (i + 1) x
-    unfolding joined passed addAll pack
+    unfolding joined passed addAll
     passing-more x l q =
-        let u = withLabel (view t) (getD b (at + 1 + i) 0) (getD (m .params) i 0) in
-        let room : t .n < 32 = omega (arith, p .few, a .few) in
-        let w : Within u = within-label (inr (rw (labels-count (p .fine)) room)) (fine-within (p .fine)) in
+        let here : Means t (view t) = record { within = fine-within (p .fine); is = p .fine .packed } in
+        let r = getD b (at + 1 + i) 0 in
+        let c = getD (m .params) i 0 in
+        let next : Means x (withLabel (view t) r c) = means-more here x r c (omega (arith, labels-count (p .fine), p .few, a .few)) q in
         record {
-          fine = rw q (within-fine u w);
-          few = rw q (omega (arith, p .few, labels-count (p .fine), length-addAll decides-sameLabel (label (getD b (at + 1 + i) 0) (getD (m .params) i 0) ∷ []) (view t .labels)));
-          rest = p .rest ∙ rw (args-more a e i l, params-more a e i l) (sym (joins-packed u w x q (passed (drop (i + 1) (argumentsAt b at)) (drop (i + 1) (paramsIn m)))));
+          fine = means-fine next;
+          few = omega (arith, means-count next, p .few, labels-count (p .fine), length-addAll decides-sameLabel (label r c ∷ []) (view t .labels));
+          rest = p .rest ∙ rw (args-more a e i l, params-more a e i l) (sym (means-joined next (passed (drop (i + 1) (argumentsAt b at)) (drop (i + 1) (paramsIn m)))));
         }
 
     pub passing-all : m .k ≤ i → t ≡ pack (joined (view s) (passed (argumentsAt b at) (paramsIn m)))

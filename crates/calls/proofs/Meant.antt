@@ -1,0 +1,70 @@
+-- A state by value that means a given state: what joins it joins what it means.
+-- Assumes nothing.
+use Prim.Native.Nat.{ℕ, _≤_, _<_}
+use native.Mathlib.Omega.{arith}
+use mathlib.Core.Path.{_≡_, refl, sym, ap, _∙_}
+use mathlib.Core.Logic.{inr}
+use mathlib.Core.Bool.{Bool, true, false}
+use mathlib.Core.List.{List, [], _∷_}
+use lib.ListN.{length}
+use Rattle.meaning.specs.Reading.{Took, takes, refuses, need}
+use Rattle.runs.specs.Machine as M
+use Rattle.runs.specs.Machine.{Label, label, sameLabel, addAll, withLabel}
+use Rattle.runs.specs.Steps.{roomFor, join}
+use Rattle.runs.specs.Admitted.{Within}
+use Rattle.runs.proofs.Typing.{within-label}
+use Rattle.state.specs.declared.State.{State}
+use Rattle.state.specs.declared.Done.{Done}
+use Rattle.state.specs.View.{view, pack}
+use Rattle.state.specs.Fine.{Fine, done, doneOf}
+use Rattle.state.proofs.Packed.{tidy, view-pack, pack-tidy, within-fine}
+use Rattle.calls.specs.Frames.{joined}
+
+pub record Means (x : State) (u : M.State) : Type 0 where
+  pub within : Within u
+  pub is : x ≡ pack u
+
+module _ {x : State} {u : M.State} (m : Means x u) where
+  pub means-fine : Fine x
+  means-fine = rw (m .is) (within-fine u (m .within))
+
+  pub means-count : x .n ≡ length (u .labels)
+  unfolding pack
+  means-count = ap (λ (y : State). y .n) (m .is)
+
+  means-view : view x ≡ tidy u
+  means-view = ap view (m .is) ∙ view-pack u (m .within)
+
+  pub means-joined : (ls : List Label) → pack (joined (view x) ls) ≡ pack (joined u ls)
+  unfolding joined
+  means-joined ls = ap (λ (y : M.State). pack (joined y ls)) means-view ∙ pack-tidy (joined u ls)
+
+  -- a label more
+  pub means-more : (y : State) (r c : ℕ) → length (u .labels) < 32 → y ≡ pack (withLabel (view x) r c) → Means y (withLabel u r c)
+  unfolding joined addAll
+  means-more y r c h e = record { within = within-label (inr h) (m .within); is = e ∙ means-joined (label r c ∷ []) }
+
+  -- a label joins, or has no room; a refusal leaves another state
+  module _ (s : State) (r c : ℕ) (d : Done) (e : d ≡ doneOf x (join (view x) r c)) where
+    abbrev tried : Bool → Took M.State
+    tried b = need b 63 (takes (withLabel (tidy u) r c))
+
+    is-tried : d ≡ doneOf x (tried (roomFor sameLabel 32 (label r c) (u .labels)))
+    unfolding join
+    is-tried = e ∙ ap (λ (y : M.State). doneOf x (join y r c)) means-view
+
+    pub joins-on : d .code ≡ 0 → d ≡ doneOf s (join u r c)
+    unfolding join
+    joins-on z = is-tried ∙ on (roomFor sameLabel 32 (label r c) (u .labels)) (sym (ap (λ (y : Done). y .code) is-tried) ∙ z)
+      where
+        on : (b : Bool) → doneOf x (tried b) .code ≡ 0 → doneOf x (tried b) ≡ doneOf s (need b 63 (takes (withLabel u r c)))
+        on true q = ap done (pack-tidy (withLabel u r c))
+        on false q = absurd (let k : 63 ≡ 0 = q in omega arith)
+
+    pub joins-off : (d .code ≡ 0 → ⊥) → record { code = d .code; state = s } ≡ doneOf s (join u r c)
+    unfolding join
+    joins-off n = ap (λ (y : Done). record { code = y .code; state = s }) is-tried ∙ on (roomFor sameLabel 32 (label r c) (u .labels)) (λ q. n (ap (λ (y : Done). y .code) is-tried ∙ q))
+      where
+        on : (b : Bool) → (doneOf x (tried b) .code ≡ 0 → ⊥) → record { code = doneOf x (tried b) .code; state = s } ≡ doneOf s (need b 63 (takes (withLabel u r c)))
+        on true q = absurd (q refl)
+        on false q = refl

@@ -1,0 +1,40 @@
+-- `calls::call_method` meets its contract: room for one context more, then the receiver, and then the arguments. Assumes nothing.
+use native.Mathlib.Omega.{arith}
+use Rattle.calls.proofs.Entered.{call-full, entered-means, entered-few, received, received-few, call-received}
+use Rattle.calls.proofs.Meant.{means-fine}
+use borrow.Author.Needs.{needs}
+use Rattle.calls.proofs.call_method.Statement.{statement}
+use Rattle.calls.proofs.call_method.Tie as tie
+
+returns : tie.Need-returns
+returns c = call-full (c .before .before .pre .0) _ _ _ (c .if1 .taken)
+
+push-requires : tie.Need-push-requires
+push-requires c κs = search needs
+
+put-requires : tie.Need-put-requires
+put-requires c κs =
+    let a = c .before .before .before .args in
+    let f = c .before .before .before .pre .0 in
+    let h = c .before .if1 .left in
+    let m = entered-means f (a .called .result) (a .v) h _ (c .push .ensures) in
+    (means-fine m, omega (arith, entered-few f (a .called .result) (a .v) h m))
+
+pass-requires : tie.Need-pass-requires
+pass-requires c κs =
+    let a = c .before .before .before .before .args in
+    let f = c .before .before .before .before .pre .0 in
+    let h = c .before .before .if1 .left in
+    let m = received f (a .called .result) (a .v) h (entered-means f (a .called .result) (a .v) h _ (c .before .push .ensures)) _ _ _ (c .put .ensures) in
+    (means-fine m, (omega (arith, received-few f (a .called .result) (a .v) h (a .r) (a .runs .class) m), (search needs, (c .before .before .before .before .pre .1 .0, c .before .before .before .before .pre .1 .1))))
+
+returns-2 : tie.Need-returns-2
+returns-2 c =
+    let a = c .before .before .before .before .before .args in
+    let f = c .before .before .before .before .before .pre .0 in
+    let h = c .before .before .before .if1 .left in
+    let m = received f (a .called .result) (a .v) h (entered-means f (a .called .result) (a .v) h _ (c .before .before .push .ensures)) _ _ _ (c .before .put .ensures) in
+    call-received f (a .called .result) (a .v) h _ _ _ _ _ m (c .pass .ensures)
+
+pub call-method-spec : {M : Type 1} → statement M
+call-method-spec = tie.close (tie.spec returns push-requires put-requires pass-requires returns-2)

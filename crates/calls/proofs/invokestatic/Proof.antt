@@ -1,0 +1,57 @@
+-- `calls::invokestatic` meets its contract: each test is the definition's, in its order, of the method's row. Assumes nothing.
+use Rattle.runs.specs.Steps.{step}
+use Rattle.state.specs.View.{view}
+use Rattle.state.proofs.Premises.{missing, held}
+use Rattle.meaning.proofs.Bools.{true-passes}
+use Rattle.calls.proofs.Arguments.{held-count}
+use Rattle.calls.proofs.Rows.{few-params, params-is, result-is, static-named}
+use Rattle.calls.proofs.Invoked.{static-of}
+use borrow.Author.Needs.{needs}
+use Rattle.calls.proofs.invokestatic.Statement.{statement}
+use Rattle.calls.proofs.invokestatic.Tie as tie
+
+element-copy-out-number : tie.Need-element-copy-out-number
+element-copy-out-number c = search needs
+
+permitted-requires : tie.Need-permitted-requires
+permitted-requires c κs = search needs
+
+returns : tie.Need-returns
+unfolding step view
+returns c = λ P x m. rw (missing (c .before .permitted .ensures .1 P x) (c .if1 .taken))
+
+holds-all-requires : tie.Need-holds-all-requires
+holds-all-requires c κs = (search needs, (search needs, few-params (c .before .before .before .before .before .pre .1 .1 .1)))
+
+returns-2 : tie.Need-returns-2
+unfolding view
+returns-2 c = λ P x m.
+    let a = c .before .before .before .before .before .before .before .args in
+    let p = held (c .before .before .before .before .permitted .ensures .1 P x) (c .before .before .before .if1 .left) in
+    let h = static-named P (m .good) _ _ p in
+    static-of P (a .s) (view (a .s)) _ _ _ (params-is m h) (result-is m h) (rw (p, missing (c .before .holds-all .ensures) (c .if2 .taken)))
+
+call-static-requires : tie.Need-call-static-requires
+call-static-requires c κs = 
+    let few = few-params (c .before .before .before .before .before .before .before .pre .1 .1 .1) in
+    (c .before .before .before .before .before .before .before .pre .0, (few, held-count {b = c .before .before .before .before .before .before .before .args .t3 .b} {at = 2} {m = c .before .before .before .before .before .before .before .args .called} (record { long = search needs; params = search needs; place = search needs; few = few }) _ (true-passes _ (held (c .before .holds-all .ensures) (c .if2 .left)))))
+
+returns-3 : tie.Need-returns-3
+unfolding view
+returns-3 c = λ P x m.
+    let a = c .before .before .before .before .before .before .before .before .args in
+    let p = held (c .before .before .before .before .before .permitted .ensures .1 P x) (c .before .before .before .before .if1 .left) in
+    let h = static-named P (m .good) _ _ p in
+    static-of P (a .s) (view (a .s)) _ _ _ (params-is m h) (result-is m h) (rw (p, held (c .before .before .holds-all .ensures) (c .before .if2 .left)) (c .call-static .ensures))
+
+pub invokestatic-spec : {M : Type 1} → statement M
+invokestatic-spec =
+    tie.close
+    (tie.spec
+    element-copy-out-number
+    permitted-requires
+    returns
+    holds-all-requires
+    returns-2
+    call-static-requires
+    returns-3)

@@ -34,7 +34,7 @@ module _ (t : M.State) (r : ℕ) {cs : List Saved} {k : Saved} {ks : List Saved}
 -- the newest of the saved contexts
 pub saved-top : (s : State) → 0 < s .depth
     → let top = getD (s .saved) (s .depth - 1) noSaved in
-      view s .saved ≡ record { method = top .method; pending = typeOrNone (top .pending); labels = frameView (s .labels) (s .depth - 1) (top .n) } ∷ savedView (s .labels) (s .saved) (s .depth - 1)
+    view s .saved ≡ record { method = top .method; pending = typeOrNone (top .pending); labels = frameView (s .labels) (s .depth - 1) (top .n) } ∷ savedView (s .labels) (s .saved) (s .depth - 1)
 unfolding view savedView
 saved-top s h = let e : s .depth ≡ suc (s .depth - 1) = omega arith in ap (savedView (s .labels) (s .saved)) e
 

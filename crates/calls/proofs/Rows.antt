@@ -108,6 +108,7 @@ module _ {P : Package} {v n : ℕ} {runs called : Method} (of-v : MethodAt P v r
     where
       high : 0 < slotOf P n
       high = of-n .good .methods n h .slot .1 i
+
       on : Dec (v < length (P .methods)) → Dec ((methodAt P v) .static ≡ 0) → ((methodAt P v) .static ≡ 0) × (slotOf P v ≡ slotOf P n)
       on (yes l) (yes z) = (z, sym (runs-slot l) ∙ e ∙ called-slot)
       on (yes l) (no z) = let g = of-v .good .methods v l in absurd (omega (arith, e, high, called-slot, runs-slot l, g .slot .0 (omega (arith, z, g .static))))

@@ -56,8 +56,8 @@ module _ (t : M.State) (w : Within t) where
       let short : length ls ≤ 32 = rw (length-map (t .labels) packLabel) (w .labels) in
       let frames : pad 544 noLabel (fs ++ ls) ≡ pad 544 noLabel ((fs ++ pad 32 noLabel ls) ++ []) = rw (append-nil (fs ++ pad 32 noLabel ls)) (sym (pad-inner noLabel 544 32 fs ls short (omega (arith, frames-long t w)))) in
       let contexts : set (pad 16 noSaved cs) (length (t .saved)) (record { method = t .method; pending = c; n = length (t .labels) }) ≡ pad 16 noSaved (cs ++ (packSaved k ∷ [])) =
-          rw (← contexts-length (t .saved))
-          (ap (λ (p : ℕ). set (pad 16 noSaved cs) (length cs) (record { method = t .method; pending = p; n = length (t .labels) })) (sym (orFF-again (some c))) ∙ pad-more noSaved 16 cs (packSaved k) (rw (contexts-length (t .saved)) h)) in
+      rw (← contexts-length (t .saved))
+      (ap (λ (p : ℕ). set (pad 16 noSaved cs) (length cs) (record { method = t .method; pending = p; n = length (t .labels) })) (sym (orFF-again (some c))) ∙ pad-more noSaved 16 cs (packSaved k) (rw (contexts-length (t .saved)) h)) in
       λ i.
       record {
         pool = pack t .pool;

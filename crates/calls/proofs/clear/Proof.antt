@@ -46,7 +46,7 @@ loop-less : tie.Need-loop-less Inv-loop μ-loop
 loop-less c = search needs
 
 loop-again : tie.Need-loop-again Inv-loop μ-loop
-loop-again c = 
+loop-again c =
     let s = c .before in
     let a = c .before .before .args in
     (search needs, cleared-more noLabel (a .labels) (32 * a .depth) (a .n) (s .loop .i) _ (fits (c .before .before)) (search needs) (s .loop .inv .1))

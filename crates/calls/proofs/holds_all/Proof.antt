@@ -48,7 +48,7 @@ has-label-requires : tie.Need-has-label-requires Inv-loop μ-loop
 has-label-requires c κs = search needs
 
 returns-2 : tie.Need-returns-2 Inv-loop μ-loop
-returns-2 c = 
+returns-2 c =
     let s = c .before .before .before .before .before in
     held-not _ _ _ _ (asked (c .before .before .before .before .before .before .before .before .before)) (c .before .before .before .before .before .before .before .if1 .left) (s .loop .i) (s .loop .inv .1) (omega (arith, c .before .before .before .before .loop-test .taken, c .before .before .before .before .before .before .wide .ensures)) (missing (c .before .has-label .ensures) (c .if2 .taken))
 
@@ -59,7 +59,7 @@ loop-less : tie.Need-loop-less Inv-loop μ-loop
 loop-less c = search needs
 
 loop-again : tie.Need-loop-again Inv-loop μ-loop
-loop-again c = 
+loop-again c =
     let s = c .before .before .before .before .before in
     (search needs, held-more _ _ _ _ (asked (c .before .before .before .before .before .before .before .before .before)) (c .before .before .before .before .before .before .before .if1 .left) (s .loop .i) (s .loop .inv .1) (omega (arith, c .before .before .before .before .loop-test .taken, c .before .before .before .before .before .before .wide .ensures)) (held (c .before .has-label .ensures) (c .if2 .left)))
 

@@ -4,12 +4,15 @@ use Rattle.runs.specs.Steps.{step}
 use Rattle.state.specs.View.{view}
 use Rattle.state.proofs.Premises.{missing, held}
 use Rattle.meaning.proofs.Bools.{true-passes}
-use Rattle.calls.proofs.Arguments.{held-count}
+use Rattle.calls.proofs.Arguments.{Asked, held-count}
 use Rattle.calls.proofs.Rows.{few-params, owner-is, params-is, result-is, instance-named, runs-is}
 use Rattle.calls.proofs.Invoked.{method-of}
 use borrow.Author.Needs.{needs}
 use Rattle.calls.proofs.invokemethod.Statement.{statement}
 use Rattle.calls.proofs.invokemethod.Tie as tie
+
+asked : (c : tie.Start) → Asked (c .args .t4 .b) 4 (c .args .called)
+asked c = record { long = search needs; params = search needs; place = search needs; few = few-params (c .pre .1 .1 .1 .1 .0) }
 
 element-copy-out-number : tie.Need-element-copy-out-number
 element-copy-out-number c = search needs
@@ -40,7 +43,7 @@ returns-2 c = λ P x w n v.
     (rw (p, missing (c .before .has-below .ensures .1 P w) (c .if2 .taken)))
 
 holds-all-requires : tie.Need-holds-all-requires
-holds-all-requires c κs = (search needs, (search needs, few-params (c .before .before .before .before .before .before .before .before .before .pre .1 .1 .1 .1 .0)))
+holds-all-requires c κs = (search needs, (search needs, asked (c .before .before .before .before .before .before .before .before .before) .few))
 
 returns-3 : tie.Need-returns-3
 unfolding view
@@ -76,9 +79,9 @@ returns-5 c = λ P x w n v.
     (rw (p, held (c .before .before .before .before .before .before .before .before .has-below .ensures .1 P w) (c .before .before .before .before .before .before .before .if2 .left), held (c .before .before .before .before .before .before .holds-all .ensures) (c .before .before .before .before .before .if3 .left), held (c .before .before .before .is-a .ensures .1 P w) (c .before .before .if4 .left), missing (c .before .runs-for .ensures ∙ sym (runs-is v n (i .0) (i .1) w)) (c .if5 .taken)))
 
 call-method-requires : tie.Need-call-method-requires
-call-method-requires c κs = 
-    let few = few-params (c .before .before .before .before .before .before .before .before .before .before .before .before .before .before .before .before .pre .1 .1 .1 .1 .0) in
-    (c .before .before .before .before .before .before .before .before .before .before .before .before .before .before .before .before .pre .0, (few, held-count {b = c .before .before .before .before .before .before .before .before .before .before .before .before .before .before .before .before .args .t4 .b} {at = 4} {m = c .before .before .before .before .before .before .before .before .before .before .before .before .before .before .before .before .args .called} (record { long = search needs; params = search needs; place = search needs; few = few }) _ (true-passes _ (held (c .before .before .before .before .before .before .holds-all .ensures) (c .before .before .before .before .before .if3 .left)))))
+call-method-requires c κs =
+    let a = asked (c .before .before .before .before .before .before .before .before .before .before .before .before .before .before .before .before) in
+    (c .before .before .before .before .before .before .before .before .before .before .before .before .before .before .before .before .pre .0, (a .few, held-count a _ (true-passes _ (held (c .before .before .before .before .before .before .holds-all .ensures) (c .before .before .before .before .before .if3 .left)))))
 
 returns-6 : tie.Need-returns-6
 unfolding view

@@ -3,12 +3,15 @@ use Rattle.runs.specs.Steps.{step}
 use Rattle.state.specs.View.{view}
 use Rattle.state.proofs.Premises.{missing, held}
 use Rattle.meaning.proofs.Bools.{true-passes}
-use Rattle.calls.proofs.Arguments.{held-count}
+use Rattle.calls.proofs.Arguments.{Asked, held-count}
 use Rattle.calls.proofs.Rows.{few-params, params-is, result-is, static-named}
 use Rattle.calls.proofs.Invoked.{static-of}
 use borrow.Author.Needs.{needs}
 use Rattle.calls.proofs.invokestatic.Statement.{statement}
 use Rattle.calls.proofs.invokestatic.Tie as tie
+
+asked : (c : tie.Start) → Asked (c .args .t3 .b) 2 (c .args .called)
+asked c = record { long = search needs; params = search needs; place = search needs; few = few-params (c .pre .1 .1 .1) }
 
 element-copy-out-number : tie.Need-element-copy-out-number
 element-copy-out-number c = search needs
@@ -21,7 +24,7 @@ unfolding step view
 returns c = λ P x m. rw (missing (c .before .permitted .ensures .1 P x) (c .if1 .taken))
 
 holds-all-requires : tie.Need-holds-all-requires
-holds-all-requires c κs = (search needs, (search needs, few-params (c .before .before .before .before .before .pre .1 .1 .1)))
+holds-all-requires c κs = (search needs, (search needs, asked (c .before .before .before .before .before) .few))
 
 returns-2 : tie.Need-returns-2
 unfolding view
@@ -32,9 +35,9 @@ returns-2 c = λ P x m.
     static-of P (a .s) (view (a .s)) _ _ _ (params-is m h) (result-is m h) (rw (p, missing (c .before .holds-all .ensures) (c .if2 .taken)))
 
 call-static-requires : tie.Need-call-static-requires
-call-static-requires c κs = 
-    let few = few-params (c .before .before .before .before .before .before .before .pre .1 .1 .1) in
-    (c .before .before .before .before .before .before .before .pre .0, (few, held-count {b = c .before .before .before .before .before .before .before .args .t3 .b} {at = 2} {m = c .before .before .before .before .before .before .before .args .called} (record { long = search needs; params = search needs; place = search needs; few = few }) _ (true-passes _ (held (c .before .holds-all .ensures) (c .if2 .left)))))
+call-static-requires c κs =
+    let a = asked (c .before .before .before .before .before .before .before) in
+    (c .before .before .before .before .before .before .before .pre .0, (a .few, held-count a _ (true-passes _ (held (c .before .holds-all .ensures) (c .if2 .left)))))
 
 returns-3 : tie.Need-returns-3
 unfolding view

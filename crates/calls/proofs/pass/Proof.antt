@@ -46,7 +46,7 @@ loop-less : tie.Need-loop-less Inv-loop μ-loop
 loop-less c = search needs
 
 loop-again : tie.Need-loop-again Inv-loop μ-loop
-loop-again c = 
+loop-again c =
     let s = c .before .before .before .before in
     (search needs, passing-more _ _ _ _ (asked (c .before .before .before .before .before .before)) (c .before .before .before .before .before .before .pre .1 .1 .1 .1) (s .loop .i) (s .loop .t) (s .loop .inv .1) _ (omega (arith, c .before .before .before .loop-test .taken, c .before .before .before .before .before .wide .ensures)) (c .put .ensures))
 

@@ -13,11 +13,11 @@ use Rattle.calls.specs.Called.{MethodAt}
 -- the arrays are the package's own
 pub record Equipped (P : Package) (rows exact alike pairs : List ℕ) : Type 0 where
   pub supers : Supers P rows
-  pub exact : Exact P exact
-  pub alike : Alike P alike
-  pub pairs : Pairs P pairs
+  pub effects : Exact P exact
+  pub likes : Alike P alike
+  pub fields : Pairs P pairs
 
 -- the rows at the two numbers that 28 names; 27 names the first alone
 pub record Named (P : Package) (k : Step) (called runs : Method) : Type 0 where
-  pub called : MethodAt P (byte (k .b) 1) called
-  pub runs : MethodAt P (byte (k .b) 2) runs
+  pub first : MethodAt P (byte (k .b) 1) called
+  pub second : MethodAt P (byte (k .b) 2) runs

@@ -8,7 +8,7 @@ use mathlib.Core.Path.{_≡_, refl, sym, ap, ap₂, subst, _∙_}
 use mathlib.Core.Bool.{Bool, true, false, _&&_, _||_, not}
 use mathlib.Core.List.{List, [], _∷_, map}
 use lib.Dec.{T, eqb, ltb, ltb→lt}
-use lib.ListN.{length, getD, length-map, List·getD-eq-default}
+use lib.ListN.{length, getD, length-map, List·getD-eq-default, List·getD-map}
 use Rattle.meaning.specs.Tables as M
 use Rattle.meaning.specs.Tables.{Package, Effect, noMethod, noEffect, methodAt, typeOrNone, ownerOf, slotOf, resultOf, paramsOf, opOf, namedBy}
 use Rattle.meaning.specs.Reading.{isMethodOf, isNamed}
@@ -19,18 +19,23 @@ use Rattle.meaning.proofs.Lists.{in-getD, getD-absent}
 use Rattle.runs.specs.Steps.{permits, runsFor}
 use Rattle.runs.proofs.Tests.{decides-permits}
 use Rattle.tables.specs.declared.Method.{Method}
-use Rattle.tables.specs.View.{zeroMethod}
-use Rattle.tables.specs.Pack.{packMethod, packMethods}
-use Rattle.tables.proofs.Pack.{pad-take}
+use Rattle.tables.specs.declared.Tables.{Tables}
+use Rattle.tables.specs.View.{zeroMethod, view}
+use Rattle.tables.specs.Held.{Held}
+use Rattle.tables.specs.Pack.{packMethod, packMethods, pack}
+use Rattle.tables.proofs.Pack.{pad-take, pad-length}
 use Rattle.tables.proofs.Access.{pad-zero}
 use Rattle.moves.specs.Below.{Supers, belowBy}
 use Rattle.moves.proofs.Subtypes.{below-is}
 use Rattle.calls.specs.Called.{MethodAt, paramsIn, overridesBy, runsBy}
 
+any-default : {A : Type 0} (xs : List A) (n : ℕ) (d e : A) → n < length xs → getD xs n d ≡ getD xs n e
+any-default [] n d e h = absurd (not-suc-le-zero h)
+any-default (x ∷ xs) zero d e h = refl
+any-default (x ∷ xs) (suc n) d e h = any-default xs n d e (le-of-suc-le-suc h)
+
 packed-at : (xs : List M.Method) (n : ℕ) → n < length xs → getD (map packMethod xs) n zeroMethod ≡ packMethod (getD xs n noMethod)
-packed-at [] n h = absurd (not-suc-le-zero h)
-packed-at (x ∷ xs) zero h = refl
-packed-at (x ∷ xs) (suc n) h = packed-at xs n (le-of-suc-le-suc h)
+packed-at xs n h = any-default (map packMethod xs) n zeroMethod (packMethod noMethod) (rw (length-map xs packMethod) h) ∙ List·getD-map packMethod xs n noMethod
 
 module _ {P : Package} {n : ℕ} {m : Method} (at : MethodAt P n m) where
   row : m ≡ getD (map packMethod (P .methods)) n zeroMethod
@@ -133,3 +138,11 @@ module _ {P : Package} {v n : ℕ} {runs called : Method} (of-v : MethodAt P v r
   pub runs-is : {rows : List ℕ} → Supers P rows → runsFor P v n ≡ runsBy rows v n runs called
   unfolding runsFor overrides runsBy overridesBy
   runs-is w = rw (one-slot, owner-is of-v, owner-is of-n, ← below-is w (runs .class) (called .class))
+
+-- ---- the rows of tables that are held
+
+pub held-method : {t : Tables} → Held t → (n : ℕ) (d : Method) → n < 256 → MethodAt (view t) n (getD (t .methods .at) n d)
+unfolding pack packMethods
+held-method {t} h n d l =
+    let long : length (packMethods (view t .methods) .at) ≡ 256 = pad-length zeroMethod 256 (map packMethod (view t .methods)) (rw (length-map (view t .methods) packMethod) (h .good .few-methods)) in
+    record { good = h .good; is = ap (λ (x : Tables). getD (x .methods .at) n d) (h .packed) ∙ any-default (packMethods (view t .methods) .at) n d zeroMethod (rw long l) }

@@ -80,7 +80,7 @@ fn pass(s: State, k: Step, at: usize, called: Method) -> State
     let mut i = 0;
     while i < count {
         let r = k.b[at + 1 + i];
-        let c = called.params[i];
+        let c = called.params[i]; // and not the object's own class
         let u = put(t, r, c);
         t = u;
         i += 1;
@@ -145,14 +145,16 @@ pub fn invokestatic(s: State, exact: &[u32], k: Step, called: Method) -> Done
     ensures { λ d. ⌜ ((P : Package) → Exact P (now (exact .entry)) → MethodAt P (byte (k .b) 1) called → d ≡ doneOf s (step P (view s) (invokestatic (byte (k .b) 1) (argumentsAt (k .b) 2)))) ⌝ }
 {
     let number = k.b[1];
-    if !permits::permitted(exact, s.method, 6, number) {
-        return Done { code: 61, state: s };
-    }
     let labels = s.labels;
     let depth = s.depth;
     let n = s.n;
-    if !holds_all(labels, depth, n, k, 2, called) {
-        return Done { code: 62, state: s };
+    let held = holds_all(labels, depth, n, k, 2, called);
+    let allowed = permits::permitted(exact, s.method, 6, number);
+    if !allowed {
+        return Done { code: 61, state: s }; // whether or not the arguments are held
+    }
+    if !held {
+        return Done { code: 62, state: s }; // an argument is not
     }
     call_static(s, k, called, number)
 }

@@ -16,6 +16,9 @@ asked c = record { long = search needs; params = search needs; place = search ne
 element-copy-out-number : tie.Need-element-copy-out-number
 element-copy-out-number c = search needs
 
+holds-all-requires : tie.Need-holds-all-requires
+holds-all-requires c κs = (search needs, (search needs, asked (c .before .before .before) .few))
+
 permitted-requires : tie.Need-permitted-requires
 permitted-requires c κs = search needs
 
@@ -23,38 +26,35 @@ returns : tie.Need-returns
 unfolding step view
 returns c = λ P x m. rw (missing (c .before .permitted .ensures .1 P x) (c .if1 .taken))
 
-holds-all-requires : tie.Need-holds-all-requires
-holds-all-requires c κs = (search needs, (search needs, asked (c .before .before .before .before .before) .few))
-
 returns-2 : tie.Need-returns-2
 unfolding view
 returns-2 c = λ P x m.
     let a = c .before .before .before .before .before .before .before .args in
-    let p = held (c .before .before .before .before .permitted .ensures .1 P x) (c .before .before .before .if1 .left) in
+    let p = held (c .before .before .permitted .ensures .1 P x) (c .before .if1 .left) in
     let h = static-named P (m .good) _ _ p in
-    static-of P (a .s) (view (a .s)) _ _ _ (params-is m h) (result-is m h) (rw (p, missing (c .before .holds-all .ensures) (c .if2 .taken)))
+    static-of P (a .s) (view (a .s)) _ _ _ (params-is m h) (result-is m h) (rw (p, missing (c .before .before .before .holds-all .ensures) (c .if2 .taken)))
 
 call-static-requires : tie.Need-call-static-requires
 call-static-requires c κs =
     let a = asked (c .before .before .before .before .before .before .before) in
-    (c .before .before .before .before .before .before .before .pre .0, (a .few, held-count a _ (true-passes _ (held (c .before .holds-all .ensures) (c .if2 .left)))))
+    (c .before .before .before .before .before .before .before .pre .0, (a .few, held-count a _ (true-passes _ (held (c .before .before .before .holds-all .ensures) (c .if2 .left)))))
 
 returns-3 : tie.Need-returns-3
 unfolding view
 returns-3 c = λ P x m.
     let a = c .before .before .before .before .before .before .before .before .args in
-    let p = held (c .before .before .before .before .before .permitted .ensures .1 P x) (c .before .before .before .before .if1 .left) in
+    let p = held (c .before .before .before .permitted .ensures .1 P x) (c .before .before .if1 .left) in
     let h = static-named P (m .good) _ _ p in
-    static-of P (a .s) (view (a .s)) _ _ _ (params-is m h) (result-is m h) (rw (p, held (c .before .before .holds-all .ensures) (c .before .if2 .left)) (c .call-static .ensures))
+    static-of P (a .s) (view (a .s)) _ _ _ (params-is m h) (result-is m h) (rw (p, held (c .before .before .before .before .holds-all .ensures) (c .before .if2 .left)) (c .call-static .ensures))
 
 pub invokestatic-spec : {M : Type 1} → statement M
 invokestatic-spec =
     tie.close
     (tie.spec
     element-copy-out-number
+    holds-all-requires
     permitted-requires
     returns
-    holds-all-requires
     returns-2
     call-static-requires
     returns-3)

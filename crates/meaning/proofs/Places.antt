@@ -31,7 +31,7 @@ lines-up-to R n (l ∷ ls) m h = on (takeLine R l) (λ Q. lines-up-to Q (suc n) 
     on (takes Q) f = f Q
     on (refuses k) f = (omega arith, refl)
 
-few-lines : (s : List ℕ) → length (linesOf s) ≤ length s
+pub few-lines : (s : List ℕ) → length (linesOf s) ≤ length s
 unfolding linesOf
 few-lines [] = le-refl 0
 few-lines (c ∷ s) = on (eqb c 10) (linesOf s) (few-lines s)

@@ -6,3 +6,4 @@ pub mod Known
 pub mod Starting
 pub mod Ending
 pub mod Whole
+pub mod Guarantee

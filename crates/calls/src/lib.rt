@@ -2,6 +2,7 @@
 ghost use mathlib.Core.Path.{_≡_};
 ghost use mathlib.Core.List.{[], _∷_};
 ghost use Prim.Native.Nat.{_+_, _*_, _≤_, _<_};
+ghost use lib.ListN.{getD};
 ghost use Rattle.meaning.specs.Tables.{Package, typeOrNone};
 ghost use Rattle.meaning.specs.Text.{byte};
 ghost use Rattle.runs.specs.Machine.{label, withLabel, called, passed, invokestatic, invokemethod, return};
@@ -66,6 +67,19 @@ fn put(s: State, r: u8, c: u8) -> State
     d.state
 }
 
+// The argument of number i joins the running frame at its parameter's type.
+fn pass_one(s: State, k: Step, at: usize, called: Method, i: usize) -> State
+    requires { ⌜ Fine s ⌝ }
+    requires { ⌜ s .n < 32 ⌝ }
+    requires { ⌜ at ≤ 4 ⌝ }
+    requires { ⌜ i < 6 ⌝ }
+    ensures { λ t. ⌜ t ≡ pack (withLabel (view s) (getD (k .b) (at + 1 + i) 0) (getD (called .params) i 0)) ⌝ }
+{
+    let r = k.b[at + 1 + i];
+    let c = called.params[i]; // and not the object's own class
+    put(s, r, c)
+}
+
 // The arguments join the running frame at the parameter types.
 fn pass(s: State, k: Step, at: usize, called: Method) -> State
     requires { ⌜ Fine s ⌝ }
@@ -79,9 +93,7 @@ fn pass(s: State, k: Step, at: usize, called: Method) -> State
     let mut t = s;
     let mut i = 0;
     while i < count {
-        let r = k.b[at + 1 + i];
-        let c = called.params[i]; // and not the object's own class
-        let u = put(t, r, c);
+        let u = pass_one(t, k, at, called, i);
         t = u;
         i += 1;
     }

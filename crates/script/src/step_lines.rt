@@ -80,8 +80,9 @@ pub(crate) fn read_steps(
             next.no = no;
             return StepsRead { next, steps: x };
         }
-        next = lines::moved(next, cut.next);
-        x.at[n] = run_frames::step::step_of(f, next.line as u16);
+        let line = next.line + 1;
+        x.at[n] = run_frames::step::step_of(f, line as u16);
         x.n = n + 1;
+        next = lines::moved(next, cut.next);
     }
 }

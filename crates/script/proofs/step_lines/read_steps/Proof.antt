@@ -1,6 +1,6 @@
 -- `read_steps` reads its section: with the list so far held, the text reads on from the cursor as it does from the section's start.
 -- Assumes nothing.
-use Prim.Native.Nat.{_-_, _<_}
+use Prim.Native.Nat.{_-_, _≤_, _<_}
 use native.Mathlib.Omega.{arith}
 use mathlib.Core.Path.{sym, _∙_}
 use mathlib.Core.List.{[]}
@@ -47,21 +47,24 @@ returns-2 c =
     line-refused (steps-kept _ _ _) (c .before .before .before .before .before .before .loop .inv) (found _ _ _ (c .before .before .before .before .before .line-of .ensures) (not-false _ (c .before .before .before .before .if1 .left)))
     (by-names (c .before .before .before .before .before .before .loop .x .n) (c .before .before .before .before .before .line-of .result .frame) (c .before .judge-step .ensures) (c .before .before .named .ensures)) (c .if2 .taken)
 
-moved-requires : tie.Need-moved-requires Inv-loop μ-loop
-moved-requires c κs = let d = found _ _ _ (c .before .before .before .before .before .line-of .ensures) (not-false _ (c .before .before .before .before .if1 .left)) in omega (arith, d .taken .next, c .before .before .before .before .before .before .loop .inv .within .line)
+lines-fit : (c : tie.After-struct-known Inv-loop μ-loop) → c .before .before .before .before .before .before .before .loop .next .line ≤ 32768
+lines-fit c = let w = c .before .before .before .before .before .before .before .loop .inv .within in omega (arith, w .at, w .line, c .before .before .before .before .before .before .before .before .before .before .pre .1)
+
+add-line : tie.Need-add-line Inv-loop μ-loop
+add-line c = omega (arith, lines-fit c)
 
 cast-step-of : tie.Need-cast-step-of Inv-loop μ-loop
-cast-step-of c = rw (c .before .moved .ensures) (let w = c .before .before .before .before .before .before .before .before .loop .inv .within in omega (arith, w .at, w .line, c .before .before .before .before .before .before .before .before .before .before .before .pre .1))
+cast-step-of c = omega (arith, lines-fit c)
 
 step-of-requires : tie.Need-step-of-requires Inv-loop μ-loop
 step-of-requires c κs = search needs
 
-room : (c : tie.After-step-of Inv-loop μ-loop) → c .before .before .before .before .before .before .before .before .before .loop .x .n < 1024
+room : (c : tie.After-step-of Inv-loop μ-loop) → c .before .before .before .before .before .before .before .before .loop .x .n < 1024
 unfolding judgeStep
-room c = has-room _ 1024 _ _ _ (sym (c .before .before .before .before .judge-step .ensures) ∙ c .before .before .before .if2 .left)
+room c = has-room _ 1024 _ _ _ (sym (c .before .before .before .judge-step .ensures) ∙ c .before .before .if2 .left)
 
-mul-t20 : tie.Need-mul-t20 Inv-loop μ-loop
-mul-t20 c = omega (arith, room c)
+mul-t21 : tie.Need-mul-t21 Inv-loop μ-loop
+mul-t21 c = omega (arith, room c)
 
 element-set-from-x : tie.Need-element-set-from-x Inv-loop μ-loop
 element-set-from-x c = room c
@@ -69,14 +72,17 @@ element-set-from-x c = room c
 add-x : tie.Need-add-x Inv-loop μ-loop
 add-x c = omega (arith, room c)
 
+moved-requires : tie.Need-moved-requires Inv-loop μ-loop
+moved-requires c κs = let d = found _ _ _ (c .before .before .before .before .before .before .before .line-of .ensures) (not-false _ (c .before .before .before .before .before .before .if1 .left)) in omega (arith, d .taken .next, c .before .before .before .before .before .before .before .before .loop .inv .within .line)
+
 loop-less : tie.Need-loop-less Inv-loop μ-loop
 loop-less c =
     let d = found _ _ _ (c .before .before .before .before .before .before .before .before .line-of .ensures) (not-false _ (c .before .before .before .before .before .before .before .if1 .left)) in
-    rw (c .before .before .moved .ensures) (omega (arith, moved-within (c .before .before .before .before .before .before .before .before .before .loop .inv .within) d .at, d .taken .next))
+    rw (c .moved .ensures) (omega (arith, moved-within (c .before .before .before .before .before .before .before .before .before .loop .inv .within) d .at, d .taken .next))
 
 loop-again : tie.Need-loop-again Inv-loop μ-loop
 loop-again c =
-    rw (c .step-of .ensures, c .before .before .moved .ensures)
+    rw (c .moved .ensures, c .before .step-of .ensures)
     (line-on (steps-kept _ _ _) (c .before .before .before .before .before .before .before .before .before .loop .inv) (found _ _ _ (c .before .before .before .before .before .before .before .before .line-of .ensures) (not-false _ (c .before .before .before .before .before .before .before .if1 .left)))
     (by-names (c .before .before .before .before .before .before .before .before .before .loop .x .n) (c .before .before .before .before .before .before .before .before .line-of .result .frame) (c .before .before .before .before .judge-step .ensures) (c .before .before .before .before .before .named .ensures)) tt (c .before .before .before .if2 .left))
 
@@ -93,11 +99,12 @@ read-steps-spec =
     named-requires
     judge-step-requires
     returns-2
-    moved-requires
+    add-line
     cast-step-of
     step-of-requires
-    mul-t20
+    mul-t21
     element-set-from-x
     add-x
+    moved-requires
     loop-less
     loop-again)

@@ -1,11 +1,12 @@
 -- What is known of each section: the five instances of `Kept`.
 -- Assumes nothing.
-use Prim.Native.Nat.{ℕ, zero, suc, _+_, _≤_, _<_}
+use Prim.Native.Nat.{ℕ, zero, suc, _+_, _<_}
 use native.Mathlib.Nat.{not-suc-le-zero, le-of-suc-le-suc}
 use mathlib.Core.Path.{_≡_, refl, sym, ap, _∙_, subst}
 use mathlib.Core.List.{List, [], _∷_, map}
-use lib.Dec.{lit<, lit≤}
+use lib.Dec.{lit<}
 use lib.ListN.{length, set, getD, length-append, length-map}
+use Rattle.meaning.specs.Lists.{all}
 use Rattle.meaning.specs.Text.{byte}
 use Rattle.meaning.specs.Kinds.{rowOf, follows}
 use Rattle.meaning.specs.Tables.{Package, noField, noMethod}
@@ -22,22 +23,18 @@ use Rattle.tables.specs.declared.Methods.{Methods}
 use Rattle.tables.specs.declared.Effects.{Effects}
 use Rattle.tables.specs.View.{zeroPair, zeroClass, zeroField, zeroMethod, zeroEffect}
 use Rattle.tables.specs.Pack.{pad, packPair, packClass, packField, packMethod, packEffect, packPairs, packClasses, packFields, packMethods, packEffects}
-use Rattle.tables.proofs.Pack.{pad-at}
+use Rattle.tables.proofs.Pack.{pad-at, stored}
 use Rattle.text.specs.declared.Frame.{Frame}
 use Rattle.text.specs.Scan.{packFrame}
 use Rattle.text.proofs.Packed.{first-at}
+use Rattle.lines.proofs.Follows.{kind-is}
 use Rattle.frames.specs.declared.effects.Declared.{Declared}
 use Rattle.frames.specs.Judging.{at, judgePair, judgeClass, judgeField, judgeMethod, judgeEffect}
 use Rattle.frames.specs.Elements.{pairIn, classIn, fieldIn, methodIn, effectIn}
 use Rattle.frames.proofs.Judged.{Declares, pair-judged, class-judged, field-judged, method-judged, effect-judged}
 use Rattle.frames.proofs.Elements.{has-room, pair-packed, class-packed, field-packed, method-packed, effect-packed}
 use Rattle.package.specs.Sections.{inSection, withPairs, withClasses, withFields, withMethods, withEffects, HasDomains, HasClasses, HasBoth, HasDeclared}
-use Rattle.package.proofs.Stores.{stored}
-use Rattle.package.proofs.Order.{own}
 use Rattle.package.proofs.Steps.{Kept}
-
-kind-is : (k : ℕ) (f : List ℕ) → 0 < k → k ≤ 7 → rowOf (byte f 0) .section ≡ k → byte f 0 ≡ k
-kind-is k f l u e = own (byte f 0) (rw e l) (rw e u) ∙ e
 
 -- in its own section a frame is taken by its kind
 module _ (Q : Package) (f : List ℕ) where
@@ -96,51 +93,51 @@ by-number nc fs ms field method n f w j = j ∙ ap (λ (i : ℕ). judgeEffect (d
 -- ---- the sections
 
 pub pairs-kept : (nd : ℕ) → Kept packPairs withPairs (HasDomains nd) 2 128 (judgePair nd) pairOf pairIn (λ (x : Pairs). x .n) (λ (x : Pairs) (v : Pair). record { at = set (x .at) (x .n) v; n = x .n + 1 })
-unfolding packPairs judgePair
+unfolding packPairs judgePair all
 pairs-kept nd =
     record {
       counts = λ xs. refl;
-      judges = λ P xs f h e. taken-pair (withPairs P xs) f (kind-is 2 f (lit< tt) (lit≤ tt) e) ∙ pair-judged f (withPairs P xs) ∙ rw h;
+      judges = λ P xs f h e. taken-pair (withPairs P xs) f (kind-is 2 (byte f 0) (lit< tt) tt e) ∙ pair-judged f (withPairs P xs) ∙ rw h;
       room = λ n f h. has-room n 128 _ _ h;
       stores = λ xs f e h i. record { at = stored packPair zeroPair 128 xs (pairOf f) (pair-packed f) (has-room (length xs) 128 _ _ h) i; n = sym (length-append xs (pairOf f ∷ [])) i };
     }
 
 pub classes-kept : (nd : ℕ) → Kept packClasses withClasses (HasDomains nd) 3 127 (judgeClass nd) classOf classIn (λ (x : Classes). x .n) (λ (x : Classes) (v : Class). record { at = set (x .at) (x .n) v; n = x .n + 1 })
-unfolding packClasses judgeClass
+unfolding packClasses judgeClass all
 classes-kept nd =
     record {
       counts = λ xs. refl;
-      judges = λ P xs f h e. taken-class (withClasses P xs) f (kind-is 3 f (lit< tt) (lit≤ tt) e) ∙ class-judged f (withClasses P xs) (kind-is 3 f (lit< tt) (lit≤ tt) e) ∙ rw h;
+      judges = λ P xs f h e. taken-class (withClasses P xs) f (kind-is 3 (byte f 0) (lit< tt) tt e) ∙ class-judged f (withClasses P xs) (kind-is 3 (byte f 0) (lit< tt) tt e) ∙ rw h;
       room = λ n f h. has-room n 127 _ _ h;
-      stores = λ xs f e h i. record { at = stored packClass zeroClass 127 xs (classOf f) (class-packed f nd (length xs) (kind-is 3 f (lit< tt) (lit≤ tt) e) h) (has-room (length xs) 127 _ _ h) i; n = sym (length-append xs (classOf f ∷ [])) i };
+      stores = λ xs f e h i. record { at = stored packClass zeroClass 127 xs (classOf f) (class-packed f nd (length xs) (kind-is 3 (byte f 0) (lit< tt) tt e) h) (has-room (length xs) 127 _ _ h) i; n = sym (length-append xs (classOf f ∷ [])) i };
     }
 
 pub fields-kept : (nc : ℕ) → Kept packFields withFields (HasClasses nc) 4 256 (judgeField nc) fieldOf fieldIn (λ (x : Fields). x .n) (λ (x : Fields) (v : Field). record { at = set (x .at) (x .n) v; n = x .n + 1 })
-unfolding packFields judgeField
+unfolding packFields judgeField all
 fields-kept nc =
     record {
       counts = λ xs. refl;
-      judges = λ P xs f h e. taken-field (withFields P xs) f (kind-is 4 f (lit< tt) (lit≤ tt) e) ∙ field-judged f (withFields P xs) ∙ rw h;
+      judges = λ P xs f h e. taken-field (withFields P xs) f (kind-is 4 (byte f 0) (lit< tt) tt e) ∙ field-judged f (withFields P xs) ∙ rw h;
       room = λ n f h. has-room n 256 _ _ h;
       stores = λ xs f e h i. record { at = stored packField zeroField 256 xs (fieldOf f) (field-packed f) (has-room (length xs) 256 _ _ h) i; n = sym (length-append xs (fieldOf f ∷ [])) i };
     }
 
 pub methods-kept : (nd nc : ℕ) → Kept packMethods withMethods (HasBoth nd nc) 5 256 (judgeMethod nd nc) methodOf methodIn (λ (x : Methods). x .n) (λ (x : Methods) (v : Method). record { at = set (x .at) (x .n) v; n = x .n + 1 })
-unfolding packMethods judgeMethod
+unfolding packMethods judgeMethod all
 methods-kept nd nc =
     record {
       counts = λ xs. refl;
-      judges = λ P xs f h e. taken-method (withMethods P xs) f (kind-is 5 f (lit< tt) (lit≤ tt) e) ∙ method-judged f (withMethods P xs) (kind-is 5 f (lit< tt) (lit≤ tt) e) ∙ rw (h .0, h .1);
+      judges = λ P xs f h e. taken-method (withMethods P xs) f (kind-is 5 (byte f 0) (lit< tt) tt e) ∙ method-judged f (withMethods P xs) (kind-is 5 (byte f 0) (lit< tt) tt e) ∙ rw (h .0, h .1);
       room = λ n f h. has-room n 256 _ _ h;
-      stores = λ xs f e h i. record { at = stored packMethod zeroMethod 256 xs (methodOf f) (method-packed f nd nc (length xs) (kind-is 5 f (lit< tt) (lit≤ tt) e) h) (has-room (length xs) 256 _ _ h) i; n = sym (length-append xs (methodOf f ∷ [])) i };
+      stores = λ xs f e h i. record { at = stored packMethod zeroMethod 256 xs (methodOf f) (method-packed f nd nc (length xs) (kind-is 5 (byte f 0) (lit< tt) tt e) h) (has-room (length xs) 256 _ _ h) i; n = sym (length-append xs (methodOf f ∷ [])) i };
     }
 
 pub effects-kept : (nc : ℕ) (fs : Fields) (ms : Methods) (field : Field) (method : Method) → Kept packEffects withEffects (HasDeclared nc fs ms) 6 1024 (λ (n : ℕ) (f : Frame). judgeEffect (declaredAt nc fs ms (at f 3) field method) n f) effectOf effectIn (λ (x : Effects). x .n) (λ (x : Effects) (v : Effect). record { at = set (x .at) (x .n) v; n = x .n + 1 })
-unfolding packEffects judgeEffect
+unfolding packEffects judgeEffect all
 effects-kept nc fs ms field method =
     record {
       counts = λ xs. refl;
-      judges = λ P xs f h e. taken-effect (withEffects P xs) f (kind-is 6 f (lit< tt) (lit≤ tt) e) ∙ effect-judged f (withEffects P xs) (declaredAt nc fs ms (at (packFrame f) 3) field method) (
+      judges = λ P xs f h e. taken-effect (withEffects P xs) f (kind-is 6 (byte f 0) (lit< tt) tt e) ∙ effect-judged f (withEffects P xs) (declaredAt nc fs ms (at (packFrame f) 3) field method) (
           subst (λ (n : ℕ). Declares (withEffects P xs) n (declaredAt nc fs ms (at (packFrame f) 3) field method)) (first-at 16 f 3 (lit< tt)) (declares (record { classes = h .classes; fields = h .fields; methods = h .methods }) (at (packFrame f) 3) field method));
       room = λ n f h. has-room n 1024 _ _ h;
       stores = λ xs f e h i. record { at = stored packEffect zeroEffect 1024 xs (effectOf f) (effect-packed f) (has-room (length xs) 1024 _ _ h) i; n = sym (length-append xs (effectOf f ∷ [])) i };

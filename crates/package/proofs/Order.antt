@@ -9,7 +9,7 @@ use mathlib.Core.Logic.{_⊎_, inl, inr}
 use mathlib.Core.Bool.{Bool, true, false, cond}
 use mathlib.Core.Option.{Option, none, some}
 use mathlib.Core.List.{List}
-use lib.Dec.{eqb, leb, eqb→eq, leb→le, le→leb}
+use lib.Dec.{eqb, leb, eqb→eq}
 use lib.ListN.{length}
 use borrow.Author.Tests.{ne-eqb, eqb-true, eqb-false, leb-true, leb-false, le-leb}
 use Rattle.meaning.specs.Lists.{all}
@@ -18,17 +18,18 @@ use Rattle.meaning.specs.Kinds.{rowOf, follows}
 use Rattle.meaning.specs.Kinds as M
 use Rattle.meaning.specs.Tables.{Package}
 use Rattle.meaning.specs.Reading.{takeLater, takeFrame}
-use Rattle.meaning.proofs.Bools.{Decides, decides-as, decides-and, decides-lt, decides-same, fails-false}
+use Rattle.meaning.proofs.Bools.{decides-as, decides-same, fails-false}
 use Rattle.meaning.proofs.Lists.{all-sound}
 use Rattle.text.proofs.Rows.{Row, other, listed, row-of}
 use Rattle.lines.specs.declared.Cursor.{Cursor}
 use Rattle.lines.specs.Cursors.{nextOf}
 use Rattle.lines.proofs.Looks.{next-not}
+use Rattle.lines.proofs.Follows.{decides-follows}
 use Rattle.package.specs.Sections.{inSection, onward}
 use Rattle.package.proofs.Turns.{onward-refused, turn, turn-nine, turn-bad}
 
 -- a kind of a package's text has its own number for its section
-pub own : (b : ℕ) → 0 < (rowOf b) .section → (rowOf b) .section ≤ 7 → b ≡ (rowOf b) .section
+own : (b : ℕ) → 0 < (rowOf b) .section → (rowOf b) .section ≤ 7 → b ≡ (rowOf b) .section
 unfolding all
 own b = on (row-of b)
   where
@@ -38,13 +39,6 @@ own b = on (row-of b)
     on : {k : M.Kind} → Row b k → 0 < k .section → k .section ≤ 7 → b ≡ k .section
     on other h l = absurd (omega arith)
     on (listed {k} i e) h l = sym e ∙ eqb→eq (k .kind) (k .section) (rw (le-leb (k .section) 7 l) at (all-sound numbered tt i))
-
-decides-le : (m n : ℕ) → Decides (leb m n) (m ≤ n)
-decides-le m n = record { sound = leb→le m n; complete = le→leb m n }
-
-decides-follows : (o e b s : ℕ) → Decides (follows o e b s) ((o < s) × ((s ≤ e) × ((b ≤ s) × (b < e))))
-unfolding follows
-decides-follows o e b s = decides-and (decides-lt o s) (decides-and (decides-le s e) (decides-and (decides-le b s) (decides-lt b e)))
 
 -- a frame of another section than k may follow k where it may follow k + 1; line 1 is section 1, and no other line is
 module _ (k : ℕ) (l : 1 ≤ k) (u : k ≤ 5) (P : Package) (f : List ℕ) (n : 1 < k → rowOf (byte f 0) .section ≡ k → ⊥) where

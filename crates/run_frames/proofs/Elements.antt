@@ -61,7 +61,7 @@ module _ (f : List ℕ) where
 -- ---- a step's frame is the frame of the step that it means
 
 -- a kind of step is one of 20 to 29
-step-kind : (b : ℕ) → (rowOf b) .section ≡ 0x20 → (0x20 ≤ b) × (b ≤ 0x29)
+pub step-kind : (b : ℕ) → (rowOf b) .section ≡ 0x20 → (0x20 ≤ b) × (b ≤ 0x29)
 unfolding all
 step-kind b e = on (row-of b) e
   where

@@ -30,10 +30,10 @@ use Rattle.run_frames.proofs.Pools.{Has}
 use Rattle.run_frames.proofs.Judged.{object-judged, static-link-judged, object-link-judged, label-judged}
 use Rattle.run_frames.proofs.Named as N
 use Rattle.run_frames.proofs.Named.{Names, names-at, step-judged}
-use Rattle.run_frames.proofs.Elements.{has-more, static-link-packed, object-link-packed, label-packed, step-packed}
+use Rattle.run_frames.proofs.Elements.{step-kind, has-more, static-link-packed, object-link-packed, label-packed, step-packed}
+use Rattle.lines.proofs.Follows.{kind-is}
 use Rattle.script.specs.Sections.{inSection}
 use Rattle.script.specs.Lists.{withObjects, HasClasses, HoldsLinks, oneLink, withLinks, HasFields, HoldsLabels, oneLabel, withLabels, HasObjects, HoldsSteps, oneStep, noMethod, namedAt, withSteps, HasDeclared}
-use Rattle.script.proofs.Order.{kind-is, step-kind}
 use Rattle.script.proofs.Loops.{Judges, Kept}
 use Rattle.script.proofs.Stores.{links-lines, links-on, labels-lines, labels-on, steps-count, steps-on}
 

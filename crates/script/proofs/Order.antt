@@ -4,47 +4,29 @@
 use Prim.Native.Nat.{ℕ, suc, _≤_, _<_}
 use native.Mathlib.Nat.{eq-or-lt-of-le}
 use native.Mathlib.Omega.{arith}
-use mathlib.Core.Path.{_≡_, refl, sym, _∙_, subst}
+use mathlib.Core.Path.{_≡_, refl, sym, _∙_}
 use mathlib.Core.Logic.{_⊎_, inl, inr}
-use mathlib.Core.Bool.{Bool, true, false, _&&_, _||_, not}
+use mathlib.Core.Bool.{Bool, true, false, _||_}
 use mathlib.Core.Option.{Option, none, some}
 use mathlib.Core.List.{List}
-use lib.Dec.{T, eqb, leb, eqb→eq, leb→le, le→leb, lit<}
+use lib.Dec.{T, eqb, leb, leb→le, le→leb, lit<}
 use lib.ListN.{length}
-use borrow.Author.Tests.{ne-eqb, eqb-true, eqb-false, leb-true, leb-false, not-true}
+use borrow.Author.Tests.{ne-eqb, eqb-true, eqb-false, leb-true, leb-false}
 use Rattle.meaning.specs.Lists.{all}
 use Rattle.meaning.specs.Text.{frameAt, byte}
 use Rattle.meaning.specs.Kinds.{rowOf, follows, kinds}
 use Rattle.meaning.specs.Kinds as M
 use Rattle.meaning.specs.Tables.{Package}
 use Rattle.meaning.specs.Reading.{Took, takes, refuses}
-use Rattle.meaning.proofs.Bools.{both, either, passes-true, fails-false, Decides, decides-as, decides-and, decides-lt, decides-same}
-use Rattle.meaning.proofs.Lists.{all-sound}
-use Rattle.text.proofs.Rows.{Row, other, listed, row-of}
+use Rattle.meaning.proofs.Bools.{either, fails-false, decides-as, decides-same}
 use Rattle.runs.specs.Machine.{Step}
 use Rattle.runs.specs.Script.{Reader, takeObject, takeStaticLink, takeObjectLink, takeLabel, stepOf, placeStep, takeStep, takeEnd, takeLater, takeFrame}
 use Rattle.lines.specs.declared.Cursor.{Cursor}
 use Rattle.lines.specs.Cursors.{nextOf}
 use Rattle.lines.proofs.Looks.{next-not}
+use Rattle.lines.proofs.Follows.{decides-follows, each-row, kind-is}
 use Rattle.script.specs.Sections.{inSection, onward}
 use Rattle.script.proofs.Turns.{onward-refused, turn, turn-short, turn-bad}
-
--- what the table's rows pass, and the row of what is no kind, every kind's row passes
-pub each-row : (p : M.Kind → Bool) → T (all p kinds) → T (p M.unknown) → (b : ℕ) → T (p (rowOf b))
-each-row p t u b = on (row-of b)
-  where
-    on : {k : M.Kind} → Row b k → T (p k)
-    on other = u
-    on (listed i e) = all-sound p t i
-
--- ---- from one section to the next
-
-decides-le : (m n : ℕ) → Decides (leb m n) (m ≤ n)
-decides-le m n = record { sound = leb→le m n; complete = le→leb m n }
-
-decides-follows : (o e b s : ℕ) → Decides (follows o e b s) ((o < s) × ((s ≤ e) × ((b ≤ s) × (b < e))))
-unfolding follows
-decides-follows o e b s = decides-and (decides-lt o s) (decides-and (decides-le s e) (decides-and (decides-le b s) (decides-lt b e)))
 
 -- no row has a section between k and l
 abbrev pub apart : ℕ → ℕ → M.Kind → Bool
@@ -107,34 +89,6 @@ module _ (P : Package) (s : List ℕ) (c : Cursor) (R : Reader) (k l : ℕ) (low
       on false e =
           let z = eqb-false (c .no) 0 e in
           onward-refused P s c (inSection k R) z ∙ sym (onward-refused P s c (inSection l R) z)
-
--- ---- the kinds of a section
-
--- rows of section k have kinds that pass the test
-abbrev pub only : ℕ → (ℕ → Bool) → M.Kind → Bool
-only k q x = not (eqb (x .section) k) || q (x .kind)
-
-of-section : (k : ℕ) (q : ℕ → Bool) (b : ℕ) → 0 < k → T (all (only k q) kinds) → rowOf b .section ≡ k → T (q b)
-of-section k q b h t = on (row-of b)
-  where
-    on : {x : M.Kind} → Row b x → x .section ≡ k → T (q b)
-    on other e = absurd (omega arith)
-    on (listed {k = x} i e) g = pick (either (not (eqb (x .section) k)) (q (x .kind)) (all-sound (only k q) t i))
-      where
-        pick : T (not (eqb (x .section) k)) ⊎ T (q (x .kind)) → T (q b)
-        pick (inl u) = absurd (eqb-false (x .section) k (not-true (eqb (x .section) k) (passes-true (not (eqb (x .section) k)) u)) g)
-        pick (inr u) = subst (λ (b : ℕ). T (q b)) e u
-
--- a start line and the end have their own numbers for their sections
-pub kind-is : (k b : ℕ) → 0 < k → T (all (only k (λ b. eqb b k)) kinds) → rowOf b .section ≡ k → b ≡ k
-kind-is k b h t e = eqb→eq b k (of-section k (λ b. eqb b k) b h t e)
-
--- all steps are one section
-pub step-kind : (b : ℕ) → rowOf b .section ≡ 0x20 → (0x20 ≤ b) × (b ≤ 0x29)
-unfolding all
-step-kind b e =
-    let h = both (leb 0x20 b) (leb b 0x29) (of-section 0x20 (λ b. leb 0x20 b && leb b 0x29) b (lit< tt) tt e) in
-    (leb→le 0x20 b (h .0), leb→le b 0x29 (h .1))
 
 -- only steps and the end follow a step
 pub none-follows : (c b : ℕ) → 0x20 ≤ c → (rowOf b .section ≡ 0x20 → ⊥) → (b ≡ 0x2F → ⊥) → follows 0x10 0x2F c (rowOf b .section) ≡ false

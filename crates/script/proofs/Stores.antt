@@ -5,7 +5,7 @@ use Prim.Native.Nat.{ℕ, _+_, _≤_, _<_}
 use native.Mathlib.Omega.{arith}
 use mathlib.Core.Path.{_≡_, refl, sym, ap, _∙_}
 use mathlib.Core.Bool.{Bool, true, false, cond}
-use mathlib.Core.List.{List, [], _∷_, _++_, map, map-append}
+use mathlib.Core.List.{List, [], _∷_, _++_, map}
 use lib.ListN.{length, take, set, length-append, length-map}
 use Rattle.meaning.specs.Lists.{any}
 use Rattle.runs.specs.Machine as M
@@ -16,7 +16,7 @@ use Rattle.runs.specs.Script.{Reader, startOf}
 use Rattle.runs.proofs.Tests.{decides-sameLink, decides-sameLabel}
 use Rattle.runs.proofs.Sets.{length-addAll}
 use Rattle.tables.specs.Pack.{pad}
-use Rattle.tables.proofs.Pack.{pad-more, viewed}
+use Rattle.tables.proofs.Pack.{stored, viewed}
 use Rattle.state.specs.declared.Link.{Link}
 use Rattle.state.specs.declared.Label.{Label}
 use Rattle.state.specs.View.{noLink, noLabel, linkView, labelView, linksView, frameView, packLink, packLabel, packContexts, packFrames, packPool, pack}
@@ -44,10 +44,6 @@ unfolding packSteps pad
 steps-none = refl
 
 -- ---- one more
-
-module _ {A B : Type 0} (f : A → B) (z : B) (limit : ℕ) (xs : List A) (y : A) where
-  pub stored : length xs < limit → set (pad limit z (map f xs)) (length xs) (f y) ≡ pad limit z (map f (xs ++ (y ∷ [])))
-  stored h = rw (map-append, ← length-map xs f) (pad-more z limit (map f xs) (f y) (rw (← length-map xs f) at h))
 
 module _ {A : Type 0} (same : A → A → Bool) where
   addAll-more : (xs : List A) (y : A) (ys : List A) → addAll same (xs ++ (y ∷ [])) ys ≡ add same y (addAll same xs ys)
@@ -98,7 +94,7 @@ module _ (xs : List M.Link) where
       on : (b : Bool) → any (sameLink y) linkSet ≡ b → cond b there new ≡ packLinks (xs ++ (y ∷ []))
       on true e = λ i. let ks = set-there sameLink xs y e i in record { at = pad 256 noLink (map packLink ks); n = length ks; lines = one-longer xs y i }
       on false e =
-          (λ i. record { at = stored packLink noLink 256 linkSet y (omega (arith, links-short)) i; n = one-longer linkSet y i; lines = one-longer xs y i })
+          (λ i. record { at = stored packLink noLink 256 linkSet y refl (omega (arith, links-short)) i; n = one-longer linkSet y i; lines = one-longer xs y i })
           ∙ (λ i. let ks = set-new sameLink xs y e i in record { at = pad 256 noLink (map packLink ks); n = length ks; lines = length (xs ++ (y ∷ [])) })
 
   -- the link of a frame
@@ -137,7 +133,7 @@ module _ (xs : List M.Label) where
       on : (b : Bool) → any (sameLabel y) labelSet ≡ b → cond b there new ≡ packLabels (xs ++ (y ∷ []))
       on true e = λ i. let ks = set-there sameLabel xs y e i in record { at = pad 544 noLabel (map packLabel ks); n = length ks; lines = one-longer xs y i }
       on false e =
-          (λ i. record { at = stored packLabel noLabel 544 labelSet y (omega (arith, labels-short)) i; n = one-longer labelSet y i; lines = one-longer xs y i })
+          (λ i. record { at = stored packLabel noLabel 544 labelSet y refl (omega (arith, labels-short)) i; n = one-longer labelSet y i; lines = one-longer xs y i })
           ∙ (λ i. let ks = set-new sameLabel xs y e i in record { at = pad 544 noLabel (map packLabel ks); n = length ks; lines = length (xs ++ (y ∷ [])) })
 
   pub labels-on : {x : LabelLines} → HoldsLabels xs x → {k : Label} {y : M.Label} → k ≡ packLabel y → x .lines < 32 → HoldsLabels (xs ++ (y ∷ [])) (oneLabel x k)
@@ -154,7 +150,7 @@ module _ (xs : List Placed) where
   unfolding packSteps
   steps-on {x} g {k} y e h =
       (λ i. oneStep (g i) (e i))
-      ∙ (λ i. record { at = stored packStep zeroStep 1024 xs y (omega (arith, steps-count g)) i; n = one-longer xs y i })
+      ∙ (λ i. record { at = stored packStep zeroStep 1024 xs y refl (omega (arith, steps-count g)) i; n = one-longer xs y i })
 
 -- ---- the start
 

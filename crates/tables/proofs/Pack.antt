@@ -3,7 +3,7 @@
 use Prim.Native.Nat.{ℕ, zero, suc, _+_, _-_, _≤_, _<_}
 use native.Mathlib.Omega.{arith}
 use mathlib.Core.Path.{_≡_, refl, sym, ap, _∙_, subst}
-use mathlib.Core.List.{List, [], _∷_, _++_, map, append-assoc}
+use mathlib.Core.List.{List, [], _∷_, _++_, map, map-append, append-assoc}
 use lib.ListN.{length, take, getD, set, replicate, length-append, length-replicate, length-map, List·getD-append}
 use lib.Seq.{take-at, set-append-seam}
 use Rattle.meaning.specs.Tables.{Package}
@@ -35,6 +35,11 @@ module _ {A : Type 0} (z : A) where
       let e : n - length xs ≡ suc k = omega arith in
       let f : n - length (xs ++ (x ∷ [])) ≡ k = simp length-append (omega arith) in
       rw (e, f) (set-append-seam xs z (replicate k z) x ∙ sym (append-assoc xs (x ∷ []) (replicate k z)))
+
+-- one element more of a list that is packed element by element
+module _ {A B : Type 0} (f : A → B) (z : B) (limit : ℕ) (xs : List A) (y : A) {v : B} (e : v ≡ f y) where
+  pub stored : length xs < limit → set (pad limit z (map f xs)) (length xs) v ≡ pad limit z (map f (xs ++ (y ∷ [])))
+  stored h = rw (e, map-append, ← length-map xs f) (pad-more z limit (map f xs) (f y) (rw (← length-map xs f) at h))
 
 -- a list packed element by element at the start of an array is viewed as that list
 module _ {A B : Type 0} (f : A → B) (g : B → A) (back : (x : A) → g (f x) ≡ x) (z : B) where

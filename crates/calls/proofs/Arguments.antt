@@ -5,14 +5,13 @@ use native.Mathlib.Omega.{arith}
 use native.Mathlib.Numerals.{add-one}
 use mathlib.Core.Path.{_≡_, refl, sym, ap, _∙_}
 use mathlib.Core.Bool.{Bool, true, false}
-use mathlib.Core.Logic.{inl, inr}
 use mathlib.Core.List.{List, [], _∷_}
 use lib.Dec.{T}
-use lib.ListN.{length, take, drop, getD, length-take, length-drop, drop-of-length-le}
+use lib.ListN.{length, drop, getD, length-take, length-drop, drop-of-length-le}
 use lib.Seq.{drop-cons, getD-take, getD-drop}
 use Rattle.meaning.specs.Text.{byte}
-use Rattle.meaning.proofs.Bools.{fails-false, true-passes}
-use Rattle.runs.specs.Machine.{Label, HoldsAll, label, sameLabel, add, addAll, passed, withLabel}
+use Rattle.meaning.proofs.Bools.{fails-false}
+use Rattle.runs.specs.Machine.{Label, HoldsAll, label, addAll, passed, withLabel}
 use Rattle.runs.specs.Steps.{holds, holdsAll}
 use Rattle.runs.proofs.Sets.{length-addAll}
 use Rattle.runs.proofs.Tests.{decides-sameLabel, decides-holdsAll}

@@ -2,7 +2,7 @@
 -- Assumes nothing.
 use Prim.Native.Nat.{ℕ, _≤_, _<_}
 use native.Mathlib.Omega.{arith}
-use mathlib.Core.Path.{_≡_, refl, sym, ap, _∙_}
+use mathlib.Core.Path.{_≡_, ap, _∙_}
 use mathlib.Core.Option.{Option}
 use mathlib.Core.List.{List, [], _∷_, List·Memᴰ·head, List·Memᴰ·tail}
 use lib.ListN.{length}
@@ -10,9 +10,8 @@ use borrow.Author.Tests.{le-ltb, lt-ltb}
 use Rattle.meaning.specs.Lists.{In, any}
 use Rattle.meaning.specs.Tables.{typeOrNone}
 use Rattle.runs.specs.Machine as M
-use Rattle.runs.specs.Machine.{Label, label, sameLabel, add, addAll, withLabel, called}
+use Rattle.runs.specs.Machine.{Label, label, add, addAll, withLabel, called}
 use Rattle.runs.specs.Steps.{call}
-use Rattle.runs.specs.Admitted.{Within}
 use Rattle.state.specs.declared.State.{State}
 use Rattle.state.specs.View.{view, pack}
 use Rattle.state.specs.Fine.{Fine, done, refused, doneOf}

@@ -1,13 +1,13 @@
 -- A state by value that means a given state: what joins it joins what it means.
 -- Assumes nothing.
-use Prim.Native.Nat.{ℕ, _≤_, _<_}
+use Prim.Native.Nat.{ℕ, _<_}
 use native.Mathlib.Omega.{arith}
 use mathlib.Core.Path.{_≡_, refl, sym, ap, _∙_}
 use mathlib.Core.Logic.{inr}
 use mathlib.Core.Bool.{Bool, true, false}
 use mathlib.Core.List.{List, [], _∷_}
 use lib.ListN.{length}
-use Rattle.meaning.specs.Reading.{Took, takes, refuses, need}
+use Rattle.meaning.specs.Reading.{Took, takes, need}
 use Rattle.runs.specs.Machine as M
 use Rattle.runs.specs.Machine.{Label, label, sameLabel, addAll, withLabel}
 use Rattle.runs.specs.Steps.{roomFor, join}

@@ -2,18 +2,17 @@
 -- Assumes nothing.
 use Prim.Native.Nat.{ℕ, suc, _-_, _<_}
 use native.Mathlib.Omega.{arith}
-use mathlib.Core.Path.{_≡_, refl, sym, ap, subst, _∙_}
-use mathlib.Core.Bool.{Bool, true, false}
-use mathlib.Core.Option.{Option, none, some}
-use mathlib.Core.List.{List, [], _∷_}
+use mathlib.Core.Path.{_≡_, refl, ap}
+use mathlib.Core.Option.{none, some}
+use mathlib.Core.List.{List, _∷_}
 use lib.Dec.{eqb}
 use lib.ListN.{getD}
-use borrow.Author.Tests.{eq-eqb, ne-eqb}
+use borrow.Author.Tests.{ne-eqb}
 use Rattle.meaning.specs.Tables.{typeOrNone}
 use Rattle.meaning.specs.Reading.{Took, takes, refuses, need}
 use Rattle.runs.specs.Machine as M
-use Rattle.runs.specs.Machine.{Saved, label, sameLabel, add}
-use Rattle.runs.specs.Steps.{holds, returns, roomFor, roomGiven, join, back}
+use Rattle.runs.specs.Machine.{Saved}
+use Rattle.runs.specs.Steps.{holds, returns, roomGiven, join, back}
 use Rattle.state.specs.declared.State.{State}
 use Rattle.state.specs.View.{noSaved, frameView, savedView, view, pack}
 use Rattle.state.specs.Fine.{Fine}

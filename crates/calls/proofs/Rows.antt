@@ -4,8 +4,8 @@ use Prim.Native.Nat.{ℕ, zero, suc, _≤_, _<_}
 use native.Mathlib.Decide.{ℕ-discrete, decLt}
 use native.Mathlib.Omega.{arith}
 use native.Mathlib.Nat.{not-suc-le-zero, le-of-suc-le-suc}
-use mathlib.Core.Path.{_≡_, refl, sym, ap, ap₂, subst, _∙_}
-use mathlib.Core.Bool.{Bool, true, false, _&&_, _||_, not}
+use mathlib.Core.Path.{_≡_, refl, sym, ap, subst, _∙_}
+use mathlib.Core.Bool.{true}
 use mathlib.Core.List.{List, [], _∷_, map}
 use lib.Dec.{T, eqb, ltb, ltb→lt}
 use lib.ListN.{length, getD, length-map, List·getD-eq-default, List·getD-map}
@@ -13,7 +13,7 @@ use Rattle.meaning.specs.Tables as M
 use Rattle.meaning.specs.Tables.{Package, Effect, noMethod, noEffect, methodAt, typeOrNone, ownerOf, slotOf, resultOf, paramsOf, opOf, namedBy}
 use Rattle.meaning.specs.Reading.{isMethodOf, isNamed}
 use Rattle.meaning.specs.Good.{Good}
-use Rattle.meaning.specs.Tests.{subtype, instanceMethod, oneSlot, overrides}
+use Rattle.meaning.specs.Tests.{instanceMethod, oneSlot, overrides}
 use Rattle.meaning.proofs.Bools.{both, true-passes, decides-eq, decides-and, decides-as, decides-same}
 use Rattle.meaning.proofs.Lists.{in-getD, getD-absent}
 use Rattle.runs.specs.Steps.{permits, runsFor}
@@ -25,7 +25,7 @@ use Rattle.tables.specs.Held.{Held}
 use Rattle.tables.specs.Pack.{packMethod, packMethods, pack}
 use Rattle.tables.proofs.Pack.{pad-take, pad-length}
 use Rattle.tables.proofs.Access.{pad-zero}
-use Rattle.moves.specs.Below.{Supers, belowBy}
+use Rattle.moves.specs.Below.{Supers}
 use Rattle.moves.proofs.Subtypes.{below-is}
 use Rattle.calls.specs.Called.{MethodAt, paramsIn, overridesBy, runsBy}
 

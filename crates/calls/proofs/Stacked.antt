@@ -4,15 +4,13 @@ use Prim.Native.Nat.{ℕ, _+_, _*_, _-_, _≤_, _<_}
 use native.Mathlib.Omega.{arith}
 use native.Mathlib.Numerals.{add-one}
 use native.Mathlib.Nat.{not-suc-le-zero}
-use mathlib.Core.Path.{_≡_, refl, sym, ap, subst, _∙_}
-use mathlib.Core.Logic.{inl, inr}
-use mathlib.Core.Bool.{Bool, true}
+use mathlib.Core.Path.{_≡_, refl, sym, ap, _∙_}
+use mathlib.Core.Logic.{inr}
 use mathlib.Core.Option.{some}
 use mathlib.Core.List.{List, [], _∷_, _++_, map, append-nil, List·Memᴰ·head, List·Memᴰ·tail}
-use lib.ListN.{length, getD, set, replicate, length-map}
-use lib.Seq.{paste}
+use lib.ListN.{length, getD, set, length-map}
 use Rattle.meaning.specs.Tables.{typeOrNone}
-use Rattle.meaning.specs.Reading.{Took, takes, refuses, need}
+use Rattle.meaning.specs.Reading.{takes}
 use Rattle.meaning.proofs.Bools.{passes-true}
 use Rattle.runs.specs.Machine as M
 use Rattle.runs.specs.Machine.{label, sameLabel, addAll, withLabel, called}
@@ -22,7 +20,6 @@ use Rattle.runs.proofs.Tests.{decides-roomFor, decides-sameLabel}
 use Rattle.tables.specs.Pack.{pad}
 use Rattle.tables.proofs.Pack.{pad-more}
 use Rattle.state.specs.declared.State.{State}
-use Rattle.state.specs.declared.Done.{Done}
 use Rattle.state.specs.View.{noLabel, noSaved, view, pack, packLabel, packSaved, packFrames, packContexts}
 use Rattle.state.specs.Fine.{Fine, doneOf}
 use Rattle.state.proofs.Packed.{frames-long, contexts-length, orFF-again, fine-within}

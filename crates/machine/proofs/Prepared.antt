@@ -1,8 +1,7 @@
 -- What is made of tables that are held is what a step is given of their package.
 -- Assumes nothing.
-use Prim.Native.Nat.{ℕ, _<_}
+use Prim.Native.Nat.{_<_}
 use mathlib.Core.Path.{refl}
-use mathlib.Core.List.{List}
 use lib.ListN.{take, getD}
 use Rattle.meaning.specs.Text.{byte}
 use Rattle.tables.specs.declared.Tables.{Tables}

@@ -1,6 +1,6 @@
 -- `calls::back` meets its contract: what is owed to the newest of the saved frames, given where it has room. Assumes nothing.
 use native.Mathlib.Omega.{arith}
-use mathlib.Core.Path.{_≡_, sym, ap, _∙_}
+use mathlib.Core.Path.{sym, ap}
 use borrow.Author.Tests.{eq-eqb, ne-eqb}
 use Rattle.runs.specs.Steps.{step}
 use Rattle.state.specs.View.{view}

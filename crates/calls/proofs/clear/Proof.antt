@@ -1,12 +1,11 @@
 -- `calls::clear` meets its contract. The loop's invariant: the first i labels of the frame are zero, the others as they were.
 -- Assumes nothing.
-use Prim.Native.Nat.{ℕ, _+_, _*_, _-_, _≤_, _<_}
+use Prim.Native.Nat.{ℕ, _+_, _*_, _-_, _≤_}
 use native.Mathlib.Omega.{arith}
-use native.Mathlib.Numerals.{add-one}
 use native.Mathlib.Nat.{le-antisymm}
-use mathlib.Core.Path.{_≡_, refl, sym, ap, _∙_}
-use lib.ListN.{length, replicate, length-replicate, getD-replicate, set, getD}
-use lib.Seq.{paste, paste-zero, paste-suc}
+use mathlib.Core.Path.{_≡_, ap, _∙_}
+use lib.ListN.{length, replicate}
+use lib.Seq.{paste, paste-zero}
 use Rattle.tables.proofs.Access.{long}
 use Rattle.state.specs.View.{noLabel}
 use Rattle.calls.proofs.Padded.{cleared-more}

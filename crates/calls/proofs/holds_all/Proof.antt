@@ -1,9 +1,7 @@
 -- `calls::holds_all` meets its contract. The loop's invariant: all are held exactly where those from i on are.
 -- Assumes nothing.
-use Prim.Native.Nat.{_+_, _*_, _-_, _≤_, _<_}
+use Prim.Native.Nat.{_-_, _≤_}
 use native.Mathlib.Omega.{arith}
-use mathlib.Core.Path.{_≡_, sym, _∙_}
-use lib.ListN.{length}
 use Rattle.state.specs.View.{frameView}
 use Rattle.state.proofs.Premises.{missing, held}
 use Rattle.calls.proofs.Arguments.{Asked, Held, miscounted, held-none, held-more, held-not, held-all}

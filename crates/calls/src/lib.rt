@@ -67,15 +67,13 @@ fn put(s: State, r: u8, c: u8) -> State
     d.state
 }
 
-// The argument of number i joins the running frame at its parameter's type.
-fn pass_one(s: State, k: Step, at: usize, called: Method, i: usize) -> State
+// The argument r of number i joins the running frame at its parameter's type.
+fn pass_one(s: State, r: u8, called: Method, i: usize) -> State
     requires { ⌜ Fine s ⌝ }
     requires { ⌜ s .n < 32 ⌝ }
-    requires { ⌜ at ≤ 4 ⌝ }
     requires { ⌜ i < 6 ⌝ }
-    ensures { λ t. ⌜ t ≡ pack (withLabel (view s) (getD (k .b) (at + 1 + i) 0) (getD (called .params) i 0)) ⌝ }
+    ensures { λ t. ⌜ t ≡ pack (withLabel (view s) r (getD (called .params) i 0)) ⌝ }
 {
-    let r = k.b[at + 1 + i];
     let c = called.params[i]; // and not the object's own class
     put(s, r, c)
 }
@@ -93,7 +91,8 @@ fn pass(s: State, k: Step, at: usize, called: Method) -> State
     let mut t = s;
     let mut i = 0;
     while i < count {
-        let u = pass_one(t, k, at, called, i);
+        let r = k.b[at + 1 + i];
+        let u = pass_one(t, r, called, i);
         t = u;
         i += 1;
     }

@@ -4,29 +4,25 @@ use Prim.Native.Nat.{ℕ, _<_}
 use native.Mathlib.Decide.{decLt}
 use native.Mathlib.Omega.{arith}
 use mathlib.Core.Path.{_≡_, ap, _∙_}
-use mathlib.Core.List.{List, [], _∷_, _++_, map, map-append}
-use lib.ListN.{length, getD, set, length-map, List·getD-map, List·getD-eq-default}
+use mathlib.Core.List.{List, map}
+use lib.ListN.{length, getD, List·getD-map, List·getD-eq-default}
 use borrow.Author.Tests.{lt-ltb}
-use Rattle.meaning.specs.Tables.{Package, Class, noClass, home}
+use Rattle.meaning.specs.Tables.{Package, noClass, noMethod, home, ownerOf}
 use Rattle.meaning.specs.Tests.{dominated, trusts, mates, keepsFrom}
 use Rattle.meaning.specs.Good.{Good}
-use Rattle.tables.proofs.Pack.{pad-more}
 use Rattle.tables.proofs.Access.{pad-zero}
 use Rattle.bits.specs.Bit.{bit}
 use Rattle.bits.specs.Rows.{among}
 use Rattle.bits.proofs.RowLaws.{narrow-bit}
-use Rattle.homes.specs.Homes.{domainOf, homesOf, Small, trustsBy, keepsBy, Rows}
+use Rattle.homes.specs.Homes.{domainOf, homesOf, declaredIn, ownersOf, Small, trustsBy, keepsBy, Rows}
 
--- one class more
-pub homes-more : (cs : List Class) (x : Class) (n : ℕ) → length cs ≡ n → n < 127 → set (homesOf cs) n (x .domain) ≡ homesOf (cs ++ (x ∷ []))
-unfolding homesOf
-homes-more cs x n e h =
-    let k : length (map domainOf cs) ≡ n = length-map cs domainOf ∙ e in
-    rw (← k, map-append) (pad-more 0 127 (map domainOf cs) (x .domain) (omega arith))
-
-home-at : (P : Package) (c : ℕ) → getD (homesOf (P .classes)) c 0 ≡ home P c
+pub home-at : (P : Package) (c : ℕ) → getD (homesOf (P .classes)) c 0 ≡ home P c
 unfolding homesOf home
 home-at P c = pad-zero 0 127 (map domainOf (P .classes)) c ∙ List·getD-map domainOf (P .classes) c noClass
+
+pub owner-at : (P : Package) (m : ℕ) → getD (ownersOf (P .methods)) m 0 ≡ ownerOf P m
+unfolding ownersOf ownerOf
+owner-at P m = pad-zero 0 256 (map declaredIn (P .methods)) m ∙ List·getD-map declaredIn (P .methods) m noMethod
 
 home-declared : (P : Package) → Good P → (c : ℕ) → home P c < P .domains
 unfolding home

@@ -1,4 +1,4 @@
--- The domain of each class as an array, and trust between classes by it and by the rows of ►.
+-- The domain of each class and the class of each method as arrays, and trust between classes by it and by the rows of ►.
 -- Assumes nothing.
 use Prim.Native.Nat.{ℕ, _<_}
 use mathlib.Core.Path.{_≡_}
@@ -6,7 +6,7 @@ use mathlib.Core.Bool.{Bool, _&&_, not}
 use mathlib.Core.List.{List, map}
 use lib.Dec.{eqb}
 use lib.ListN.{getD}
-use Rattle.meaning.specs.Tables.{Package, Class}
+use Rattle.meaning.specs.Tables.{Package, Class, Method}
 use Rattle.meaning.specs.Tests.{dominated}
 use Rattle.meaning.specs.Good.{Good}
 use Rattle.tables.specs.Pack.{pad}
@@ -19,6 +19,13 @@ domainOf c = c .domain
 -- the domains of the classes, and the root's behind them
 unfoldable pub homesOf : List Class → List ℕ
 homesOf cs = pad 127 0 (map domainOf cs)
+
+abbrev pub declaredIn : Method → ℕ
+declaredIn m = m .class
+
+-- the classes of the methods, and zeros behind them
+unfoldable pub ownersOf : List Method → List ℕ
+ownersOf ms = pad 256 0 (map declaredIn ms)
 
 -- each is a domain's number
 abbrev pub Small : List ℕ → Type 0

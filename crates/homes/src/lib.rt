@@ -1,9 +1,9 @@
-// The domain of each class, looked up once for all rules, and what classes ask of their domains. What they mean is specs/Homes.antt.
+// The domain of each class and the class of each method, looked up once, and what classes ask of their domains. What they mean is specs/Homes.antt.
 ghost use mathlib.Core.Path.{_≡_};
 ghost use Prim.Native.Nat.{_<_, _≤_};
 ghost use lib.ListN.{getD};
-ghost use Rattle.tables.specs.View.{classesView};
-ghost use Rattle.homes.specs.Homes.{homesOf, Small, trustsBy, keepsBy};
+ghost use Rattle.tables.specs.View.{classesView, methodsView};
+ghost use Rattle.homes.specs.Homes.{homesOf, ownersOf, Small, trustsBy, keepsBy};
 
 fn wide(x: u8) -> usize
     ensures { λ r. ⌜ r ≡ x ⌝ }
@@ -23,6 +23,20 @@ pub fn homes(classes: tables::Classes) -> [u8; 127]
         homes[c] = class.domain;
     }
     homes
+}
+
+// The class of each method, and zeros behind them.
+pub fn owners(methods: tables::Methods) -> [u8; 256]
+    requires { ⌜ methods .n ≤ 256 ⌝ }
+    ensures { λ r. ⌜ r ≡ ownersOf (methodsView methods) ⌝ }
+{
+    let mut owners = [0u8; 256];
+    let n = methods.n;
+    for m in 0..n {
+        let method = methods.at[m];
+        owners[m] = method.class;
+    }
+    owners
 }
 
 // The domain of class C.

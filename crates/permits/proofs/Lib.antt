@@ -1,4 +1,3 @@
 pub mod Noted
-pub mod Filled
 pub mod Permits
 pub mod Prepared

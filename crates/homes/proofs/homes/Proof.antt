@@ -1,23 +1,22 @@
 -- `homes::homes` meets its contract. The invariant: the array has the homes of the classes passed.
 -- Assumes nothing.
-use Prim.Native.Nat.{ℕ, _≤_, _<_, _-_}
-use native.Mathlib.Nat.{le-antisymm}
+use Prim.Native.Nat.{_≤_, _<_, _-_}
 use native.Mathlib.Omega.{arith}
-use mathlib.Core.Path.{_≡_, refl, sym, ap, _∙_}
-use mathlib.Core.List.{List, [], map}
-use lib.ListN.{length, getD, set, take}
+use mathlib.Core.Path.{_≡_, refl}
+use mathlib.Core.List.{[]}
+use lib.ListN.{length}
 use borrow.Author.Needs.{needs}
 use Rattle.tables.specs.declared.Class.{Class}
 use Rattle.tables.specs.View.{classView, classesView}
 use Rattle.tables.specs.Pack.{pad}
-use Rattle.tables.proofs.Access.{long, view-length, view-more}
-use Rattle.homes.specs.Homes.{homesOf}
-use Rattle.homes.proofs.Laws.{homes-more}
+use Rattle.tables.proofs.Access.{long}
+use Rattle.tables.proofs.Filled.{Filled, filled-more, filled-all}
+use Rattle.homes.specs.Homes.{domainOf, homesOf}
 use Rattle.homes.proofs.homes.Statement.{statement}
 use Rattle.homes.proofs.homes.Tie as tie
 
 abbrev Inv-loop : tie.InvT-loop
-Inv-loop classes homes₀ n c₀ homes c = (c ≤ n) × (homes ≡ homesOf (map classView (take c (classes .at))))
+Inv-loop classes homes₀ n c₀ homes c = (c ≤ n) × Filled classView domainOf 127 (classes .at) c homes
 
 abbrev μ-loop : tie.MeasureT-loop
 μ-loop classes homes₀ n c₀ homes c = n - c
@@ -30,8 +29,8 @@ fits : (c : tie.Start Inv-loop μ-loop) → c .args .t1 .n ≤ length (c .args .
 fits c = let h : length (c .args .t1 .at) ≡ 127 = search (needs, long) in omega (arith, c .pre)
 
 loop-holds : tie.Need-loop-holds Inv-loop μ-loop
-unfolding homesOf pad
-loop-holds c = (search needs, refl)
+unfolding pad
+loop-holds c = (search needs, record { are = refl })
 
 mul-class : tie.Need-mul-class Inv-loop μ-loop
 mul-class c = omega arith
@@ -55,16 +54,14 @@ loop-again c =
     let i = c .before .before .loop .c in
     let h : i < length l = omega (arith, fits s) in (
       omega arith,
-      ap (λ (x : List ℕ). set x i ((getD l i unread) .domain)) (c .before .before .loop .inv .1)
-          ∙ homes-more (map classView (take i l)) (classView (getD l i unread)) i (view-length classView i l (omega arith)) (omega arith)
-          ∙ ap homesOf (sym (view-more classView i l unread h)),
+      filled-more classView domainOf 127 l unread i _ (c .before .before .loop .homes) h (omega arith) (c .before .before .loop .inv .1) refl,
     )
 
 returns : tie.Need-returns Inv-loop μ-loop
-unfolding classesView
+unfolding homesOf classesView
 returns c =
-    let l = c .before .before .args .t1 .at in
-    c .before .loop .inv .1 ∙ ap (λ (k : ℕ). homesOf (map classView (take k l))) (le-antisymm (c .before .loop .inv .0) (c .loop-test .left))
+    let s = c .before .before in
+    filled-all classView domainOf 127 (s .args .t1 .at) (c .before .loop .c) (s .args .t1 .n) (c .before .loop .homes) (search needs) (search needs) (c .before .loop .inv .1)
 
 pub homes-spec : {M : Type 1} → statement M
 homes-spec =

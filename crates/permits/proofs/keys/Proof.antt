@@ -10,7 +10,7 @@ use Rattle.tables.specs.Pack.{pad}
 use Rattle.tables.proofs.Access.{long, view-length}
 use Rattle.permits.specs.Keys.{exactOf, alikeOf}
 use Rattle.permits.specs.Made.{keysOf}
-use Rattle.permits.proofs.Filled.{Filled, filled-more, filled-all}
+use Rattle.tables.proofs.Filled.{Filled, filled-more, filled-all}
 use Rattle.permits.proofs.keys.Statement.{statement}
 use Rattle.permits.proofs.keys.Tie as tie
 

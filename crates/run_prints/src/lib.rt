@@ -1,0 +1,3 @@
+// What `run` prints, as a function of its input's bytes.
+
+mod cut;

@@ -54,10 +54,14 @@ Demand3 =
     → (s : State) → Admitted P s
     → (ks : List Placed) (d r c : ℕ) → Reaches P (after P s ks) d r c → Allowed P s (s .method) d r c
 
--- the same of a call's own arguments: of every line `30 dd rr cc` that the buffer then holds at its start and every supertype of cc
-abbrev pub RunConfined : List ℕ → List ℕ → List ℕ → Type 0
-RunConfined p t b =
+-- the same of a call's own arguments: p and t the two texts, of every line `30 dd rr cc` among the first n bytes of the buffer x and every
+-- supertype of cc
+abbrev pub Confined : List ℕ → List ℕ → List ℕ → ℕ → Type 0
+Confined p t x n =
     (P : Package) → readText p ≡ isRead P
     → (S : Script) → readScript P t ≡ isScript S
-    → (i d r c : ℕ) → d < 256 → r < 256 → c < 256 → 9 * i + 9 ≤ (runOf p t b) .length → take 9 (drop (9 * i) ((runOf p t b) .buffer)) ≡ lineOf (holding d r c)
+    → (i d r c : ℕ) → d < 256 → r < 256 → c < 256 → 9 * i + 9 ≤ n → take 9 (drop (9 * i) x) ≡ lineOf (holding d r c)
     → (c′ : ℕ) → Subtype P c c′ → Allowed P (S .start) (S .start .method) d r c′
+
+abbrev pub RunConfined : List ℕ → List ℕ → List ℕ → Type 0
+RunConfined p t b = Confined p t ((runOf p t b) .buffer) ((runOf p t b) .length)

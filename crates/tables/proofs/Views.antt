@@ -12,7 +12,7 @@ use Rattle.tables.specs.Pack.{pad, packPair, packClass, packField, packM
 use Rattle.tables.specs.Held.{Held}
 use Rattle.tables.proofs.Pack.{pad-at, pad-length}
 
-getD-map : {A B : Type 0} (f : A → B) (xs : List A) (i : ℕ) (d : B) (e : A) → i < length xs → getD (map f xs) i d ≡ f (getD xs i e)
+pub getD-map : {A B : Type 0} (f : A → B) (xs : List A) (i : ℕ) (d : B) (e : A) → i < length xs → getD (map f xs) i d ≡ f (getD xs i e)
 getD-map f [] i d e h = absurd (not-suc-le-zero h)
 getD-map f (x ∷ xs) zero d e h = refl
 getD-map f (x ∷ xs) (suc i) d e h = getD-map f xs i d e (le-of-suc-le-suc h)

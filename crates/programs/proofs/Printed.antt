@@ -33,40 +33,43 @@ unfolding checkOutput
 output-length s = line-length (ifShort (leb (length s) 65536) (onlyAnswer (checkOf s)) .answer)
 
 -- what a call leaves: n bytes of the text, and the buffer x
-abbrev Leaves : List ℕ → List ℕ → ℕ → List ℕ → Type 0
-Leaves text out n x = (n ≡ length (fitting text out)) × (x ≡ written text out)
+abbrev pub Leaves : ℕ → List ℕ → List ℕ → ℕ → List ℕ → Type 0
+Leaves room text out n x = (n ≡ length (fitting room text out)) × (x ≡ written room text out)
 
-module _ (text out : List ℕ) (long : length text ≡ 13) where
-  no-room : length out < 13 → fitting text out ≡ []
+module _ (room : ℕ) (text out : List ℕ) where
+  no-room : length out < room → fitting room text out ≡ []
   unfolding fitting
-  no-room h = rw (long, lt-ltb (length out) 13 h)
+  no-room h = rw (lt-ltb (length out) room h)
 
-  leaves-none : length out < 13 → Leaves text out 0 out
+  pub leaves-none : length out < room → Leaves room text out 0 out
   unfolding written
   leaves-none h = (sym (ap length (no-room h)), sym (ap (λ (x : List ℕ). x ++ drop (length x) out) (no-room h)))
 
-  fits : 13 ≤ length out → fitting text out ≡ text
+  fits : room ≤ length out → fitting room text out ≡ text
   unfolding fitting
-  fits h = rw (long, le-ltb (length out) 13 h)
+  fits h = rw (le-ltb (length out) room h)
 
-  leaves-line : (x : List ℕ) → 13 ≤ length out → x ≡ text ++ drop 13 out → Leaves text out 13 x
+  pub leaves-text : (n : ℕ) (x : List ℕ) → room ≤ length out → n ≡ length text → x ≡ text ++ drop (length text) out → Leaves room text out n x
   unfolding written
-  leaves-line x h e = (sym (ap length (fits h) ∙ long), e ∙ ap (λ (n : ℕ). text ++ drop n out) (sym long) ∙ sym (ap (λ (y : List ℕ). y ++ drop (length y) out) (fits h)))
+  leaves-text n x h l e = (l ∙ sym (ap length (fits h)), e ∙ sym (ap (λ (y : List ℕ). y ++ drop (length y) out) (fits h)))
 
 module _ (s out : List ℕ) where
-  pub left-none : length out < 13 → Leaves (checkOutput s) out 0 out
-  left-none = leaves-none (checkOutput s) out (output-length s)
+  pub left-none : length out < 13 → Leaves 13 (checkOutput s) out 0 out
+  left-none = leaves-none 13 (checkOutput s) out
 
-  pub left-long : (x : List ℕ) → 65536 < length s → 13 ≤ length out → x ≡ answerLine (answer 1 0 0) ++ drop 13 out → Leaves (checkOutput s) out 13 x
-  left-long x l h e = leaves-line (checkOutput s) out (output-length s) x h (rw (long-output s l) e)
+  line : (x : List ℕ) → 13 ≤ length out → x ≡ checkOutput s ++ drop 13 out → Leaves 13 (checkOutput s) out 13 x
+  line x h e = leaves-text 13 (checkOutput s) out 13 x h (sym (output-length s)) (e ∙ ap (λ (n : ℕ). checkOutput s ++ drop n out) (sym (output-length s)))
+
+  pub left-long : (x : List ℕ) → 65536 < length s → 13 ≤ length out → x ≡ answerLine (answer 1 0 0) ++ drop 13 out → Leaves 13 (checkOutput s) out 13 x
+  left-long x l h e = line x h (rw (long-output s l) e)
 
   pub left-short : (x : List ℕ) (a : Found.Answer) → a ≡ answerOf (checkOf s) → length s ≤ 65536 → 13 ≤ length out
-      → x ≡ answerLine (answer (a .number) (a .first) (a .second)) ++ drop 13 out → Leaves (checkOutput s) out 13 x
+      → x ≡ answerLine (answer (a .number) (a .first) (a .second)) ++ drop 13 out → Leaves 13 (checkOutput s) out 13 x
   left-short x a is l h e =
-      leaves-line (checkOutput s) out (output-length s) x h
+      line x h
       (e ∙ ap (λ (y : List ℕ). y ++ drop 13 out) (ap (λ (b : Found.Answer). answerLine (answer (b .number) (b .first) (b .second))) is ∙ sym (short-output s l)))
 
 -- what is written stands in the buffer
-pub in-buffer : (text out : List ℕ) (n : ℕ) (x : List ℕ) → n ≡ length (fitting text out) → x ≡ written text out → n ≤ length x
+pub in-buffer : (room : ℕ) (text out : List ℕ) (n : ℕ) (x : List ℕ) → n ≡ length (fitting room text out) → x ≡ written room text out → n ≤ length x
 unfolding written
-in-buffer text out n x e h = rw (h, length-append) (omega arith)
+in-buffer room text out n x e h = rw (h, length-append) (omega arith)

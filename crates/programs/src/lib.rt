@@ -6,8 +6,8 @@ ghost use Rattle.programs.specs.Fitting.{fitting, written};
 
 // The answer's line at the buffer's start; the bytes behind it stay, and a buffer without room for it stays as it is.
 pub fn check_output(input: &[u8], out: &mut [u8]) -> usize
-    ensures length { λ r. ⌜ r ≡ length (fitting (checkOutput (now (input .entry))) (now (out .entry))) ⌝ }
-    ensures bytes { λ _. ⌜ now (out .exit) ≡ written (checkOutput (now (input .entry))) (now (out .entry)) ⌝ }
+    ensures length { λ r. ⌜ r ≡ length (fitting 13 (checkOutput (now (input .entry))) (now (out .entry))) ⌝ }
+    ensures bytes { λ _. ⌜ now (out .exit) ≡ written 13 (checkOutput (now (input .entry))) (now (out .entry)) ⌝ }
 {
     if out.len() < 13 {
         return 0;

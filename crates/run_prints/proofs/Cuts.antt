@@ -3,7 +3,8 @@
 use Prim.Native.Nat.{ℕ, zero, suc, _+_, _≤_, _<_}
 use native.Mathlib.Numerals.{add-one}
 use native.Mathlib.Omega.{arith}
-use mathlib.Core.Path.{_≡_, refl, sym, ap, _∙_}
+use native.Mathlib.Nat.{le-refl}
+use mathlib.Core.Path.{_≡_, refl, sym, ap, subst, _∙_}
 use mathlib.Core.Bool.{Bool, true, false, _&&_, cond}
 use mathlib.Core.List.{List, [], _∷_}
 use lib.Dec.{T, eqb}
@@ -136,3 +137,17 @@ module _ (s : List ℕ) (i k : ℕ) (x : ℕ) (inv : cutFrom 0 s ≡ i + cutFrom
 pub cut-done : (s : List ℕ) (i k : ℕ) → cutFrom 0 s ≡ i + cutFrom k (drop i s) → i ≤ length s → length s ≤ i → i ≡ cutAt (linesOf s)
 unfolding cutFrom
 cut-done s i k inv h l = sym (whole s i k 0 inv ∙ ap (λ (t : List ℕ). i + cutFrom k t) (drop-of-length-le s l) ∙ omega arith)
+
+-- ---- the cut lies within the text
+
+cut-short : (k : ℕ) (s : List ℕ) → cutFrom k s ≤ length s
+unfolding cutFrom
+cut-short k [] = le-refl 0
+cut-short k (c ∷ s) = on (eqb (nextMark k c) 4) (cut-short (nextMark k c) s)
+  where
+    on : (b : Bool) → cutFrom (nextMark k c) s ≤ length s → cond b 1 (suc (cutFrom (nextMark k c) s)) ≤ suc (length s)
+    on true h = omega arith
+    on false h = omega arith
+
+pub cut-within : (s : List ℕ) → cutAt (linesOf s) ≤ length s
+cut-within s = subst (λ (n : ℕ). n ≤ length s) (cut-lines 0 s ∙ start-cut (linesOf s)) (cut-short 0 s)

@@ -26,10 +26,10 @@ check-output-requires : tie.Need-check-output-requires
 check-output-requires c κs = search needs
 
 array-share-prefix-out : tie.Need-array-share-prefix-out
-array-share-prefix-out c = in-buffer _ _ _ _ (c .before .check-output .ensures .0) (c .before .check-output .ensures .1)
+array-share-prefix-out c = in-buffer _ _ _ _ _ (c .before .check-output .ensures .0) (c .before .check-output .ensures .1)
 
 slice-aggregate-write-all : tie.Need-slice-aggregate-write-all
-slice-aggregate-write-all c = sym (length-take-le _ _ (in-buffer _ _ _ _ (c .before .before .check-output .ensures .0) (c .before .before .check-output .ensures .1)))
+slice-aggregate-write-all c = sym (length-take-le _ _ (in-buffer _ _ _ _ _ (c .before .before .check-output .ensures .0) (c .before .before .check-output .ensures .1)))
 
 write-all-requires : tie.Need-write-all-requires
 write-all-requires c κs = search needs

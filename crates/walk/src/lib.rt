@@ -44,16 +44,17 @@ pub fn walk(
         let runs = methods.at[wide(k.b[2])];
         let d = machine::step(s, rows, exact, alike, pairs, k, called, runs);
         let code = d.code;
-        let t = d.state;
         if code != 0 {
+            let last = d.state;
             return Outcome {
                 number: code,
                 line: k.line,
                 taken: i as u16,
-                state: t,
+                state: last,
             };
         }
-        s = t;
+        let next = d.state;
+        s = next;
         i += 1;
     }
     Outcome {

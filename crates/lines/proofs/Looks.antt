@@ -1,14 +1,14 @@
 -- A look for a line of a section: what is found, and what is missing.
 -- Assumes nothing.
-use Prim.Native.Nat.{ℕ, _<_}
+use Prim.Native.Nat.{ℕ, _+_, _<_}
 use native.Mathlib.Omega.{arith}
 use mathlib.Core.Path.{_≡_, refl, sym, ap, _∙_}
 use mathlib.Core.Bool.{Bool, true, false, cond, false≢true, true≢false}
 use mathlib.Core.Option.{Option, none, some, Option·none-ne-some}
 use mathlib.Core.List.{List}
 use lib.Dec.{eqb}
-use lib.ListN.{getD}
-use borrow.Author.Tests.{eq-eqb, ne-eqb, eqb-true}
+use lib.ListN.{length, getD}
+use borrow.Author.Tests.{eq-eqb, ne-eqb, lt-leb, eqb-true}
 use Rattle.meaning.specs.Text.{frameAt, byte}
 use Rattle.meaning.specs.Kinds.{rowOf, fits}
 use Rattle.meaning.proofs.Reading.{framed}
@@ -20,7 +20,7 @@ use Rattle.text.proofs.Packed.{first-at}
 use Rattle.text.proofs.Fitting.{fits-packed}
 use Rattle.text.proofs.Cuts.{Taken}
 use Rattle.lines.specs.declared.Cursor.{Cursor}
-use Rattle.lines.specs.Cursors.{Within, movedTo, ofSection, nextOf, lineOf}
+use Rattle.lines.specs.Cursors.{Within, movedTo, ofSection, nextOf, lineOf, behindEnd, lastOf}
 
 -- a byte of the line's frame
 pub cut-byte : {s : List ℕ} {place : ℕ} {r : Cut} (t : Taken s place r) (i : ℕ) → i < 16 → byte (t .f) i ≡ getD (r .frame .b) i 0
@@ -100,3 +100,12 @@ module _ (s : List ℕ) (c : Cursor) (k : ℕ) where
   pub line-none : nextOf s c k ≡ none → noCut (c .at) ≡ lineOf s c k
   unfolding lineOf
   line-none e = ap (cutBy (c .at)) (sym e)
+
+-- behind the last line
+module _ (base kind : ℕ) (s : List ℕ) (c : Cursor) {r : Cut} (t : Taken s (c .at) r) where
+  pub last-here : c .no ≡ 0 → c .at < length s → byte (t .f) 0 ≡ kind → fits (t .f) ≡ true → (x : ℕ) → x ≡ behindEnd base s (r .next)
+      → record { at = r .next; line = c .line + 1; no = x } ≡ lastOf base kind s c
+  unfolding lastOf
+  last-here z l k e x d =
+      (λ i. record { at = t .next i; line = c .line + 1; no = (d ∙ ap (behindEnd base s) (t .next)) i })
+      ∙ rw (eq-eqb (c .no) 0 z, lt-leb (length s) (c .at) l, t .framed, eq-eqb (byte (t .f) 0) kind k, e)

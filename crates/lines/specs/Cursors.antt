@@ -4,10 +4,10 @@ use Prim.Native.Nat.{ℕ, _+_, _≤_}
 use mathlib.Core.Bool.{cond}
 use mathlib.Core.Option.{Option, none, some}
 use mathlib.Core.List.{List}
-use lib.Dec.{eqb}
+use lib.Dec.{eqb, leb}
 use lib.ListN.{length}
-use Rattle.meaning.specs.Text.{frameAt, byte}
-use Rattle.meaning.specs.Kinds.{rowOf}
+use Rattle.meaning.specs.Text.{frameAt, behind, byte}
+use Rattle.meaning.specs.Kinds.{rowOf, fits}
 use Rattle.text.specs.declared.Cut.{Cut}
 use Rattle.text.specs.Scan.{cutBy}
 use Rattle.lines.specs.declared.Cursor.{Cursor}
@@ -38,3 +38,25 @@ nextOf s c k = cond (eqb (c .no) 0) (ofSection k (frameAt s (c .at))) none
 unfoldable pub lineOf : List ℕ → Cursor → ℕ → Cut
 unfolding nextOf
 lineOf s c k = cutBy (c .at) (nextOf s c k)
+
+-- ---- the last line, of this kind: a package's numbers with base 0, a run text's with base 50
+
+-- the number that refuses a line behind it
+abbrev pub afterEnd : ℕ → Option (List ℕ) → ℕ
+afterEnd base none = base + 2
+afterEnd base (some f) = base + 5
+
+unfoldable pub behindEnd : ℕ → List ℕ → ℕ → ℕ
+behindEnd base s at = cond (leb (length s) at) 0 (afterEnd base (frameAt s at))
+
+-- behind it, or refused there
+abbrev pub lastBy : ℕ → ℕ → List ℕ → Cursor → Option (List ℕ) → Cursor
+lastBy base kind s c none = refusedAt c (base + 2)
+lastBy base kind s c (some f) =
+    cond (eqb (byte f 0) kind)
+    (cond (fits f) (record { at = behind (c .at) f; line = c .line + 1; no = behindEnd base s (behind (c .at) f) }) (refusedAt c (base + 6)))
+    (refusedAt c (base + 5))
+
+unfoldable pub lastOf : ℕ → ℕ → List ℕ → Cursor → Cursor
+unfolding behindEnd
+lastOf base kind s c = cond (eqb (c .no) 0) (cond (leb (length s) (c .at)) (refusedAt c (base + 9)) (lastBy base kind s c (frameAt s (c .at)))) c

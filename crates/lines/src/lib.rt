@@ -2,9 +2,9 @@
 use text::Cut;
 use text::Frame;
 ghost use mathlib.Core.Path.{_≡_};
-ghost use Prim.Native.Nat.{_<_};
+ghost use Prim.Native.Nat.{_≤_, _<_};
 ghost use Rattle.text.specs.Scan.{noCut};
-ghost use Rattle.lines.specs.Cursors.{movedTo, lineOf};
+ghost use Rattle.lines.specs.Cursors.{Within, movedTo, lineOf, behindEnd, lastOf};
 
 // Where the next line begins, how many lines are read, and the number that refuses the next one, or 0.
 pub struct Cursor {
@@ -60,4 +60,58 @@ pub fn line_of(s: &[u8], c: Cursor, section: u8) -> Cut
         return no_line(at);
     }
     cut
+}
+
+// What stands behind the last line: nothing, or a line that is refused.
+fn behind(s: &[u8], at: usize, base: u8) -> u8
+    requires { ⌜ base ≤ 50 ⌝ }
+    ensures { λ r. ⌜ r ≡ behindEnd base (now (s .entry)) at ⌝ }
+{
+    if s.len() <= at {
+        return 0;
+    }
+    let cut = text::scan(s, at);
+    let ok = cut.ok;
+    if !ok {
+        return base + 2;
+    }
+    base + 5
+}
+
+// The last line, of this kind, behind which nothing may stand. The numbers of its refusals are a package's, and `base` more in a run text.
+pub fn last_line(s: &[u8], c: Cursor, kind: u8, base: u8) -> Cursor
+    requires { ⌜ Within (now s) c ⌝ }
+    requires { ⌜ base ≤ 50 ⌝ }
+    ensures { λ r. ⌜ r ≡ lastOf base kind (now (s .entry)) c ⌝ }
+{
+    if c.no != 0 {
+        return c;
+    }
+    let at = c.at;
+    let line = c.line;
+    if s.len() <= at {
+        let no = base + 9;
+        return Cursor { at, line, no };
+    }
+    let cut = text::scan(s, at);
+    let ok = cut.ok;
+    if !ok {
+        let no = base + 2;
+        return Cursor { at, line, no };
+    }
+    let f = cut.frame;
+    if f.b[0] != kind {
+        let no = base + 5;
+        return Cursor { at, line, no };
+    }
+    if !text::fits(f) {
+        let no = base + 6;
+        return Cursor { at, line, no };
+    }
+    let next = cut.next;
+    Cursor {
+        at: next,
+        line: line + 1,
+        no: behind(s, next, base),
+    }
 }

@@ -1,13 +1,13 @@
 -- What the sections of a text leave to each other: a cursor, and tables that read what stands behind it as the whole text is read.
 -- Assumes nothing.
-use Prim.Native.Nat.{ℕ, suc, _+_, _≤_}
+use Prim.Native.Nat.{ℕ, suc}
 use mathlib.Core.Path.{_≡_}
-use mathlib.Core.Bool.{true, false, cond}
-use mathlib.Core.Option.{Option, none, some}
+use mathlib.Core.Bool.{cond}
+use mathlib.Core.Option.{none}
 use mathlib.Core.List.{List, []}
-use lib.Dec.{eqb, leb}
+use lib.Dec.{eqb}
 use lib.ListN.{length, drop}
-use Rattle.meaning.specs.Text.{linesOf, frameAt, byte}
+use Rattle.meaning.specs.Text.{linesOf}
 use Rattle.meaning.specs.Tables.{Package, Pair, Class, Field, Method, Effect}
 use Rattle.meaning.specs.Reading.{answer, Reader, header, Reading, isRead, isRefused, readLines, noReader}
 use Rattle.tables.specs.declared.Fields.{Fields}
@@ -83,14 +83,6 @@ pub record HasDeclared (nc : ℕ) (fs : Fields) (ms : Methods) (P : Package) : T
   pub methods : ms ≡ packMethods (P .methods)
 
 -- ---- the end
-
--- the number that refuses a line behind the last one
-abbrev pub afterEnd : Option (List ℕ) → ℕ
-afterEnd none = 2
-afterEnd (some f) = 5
-
-unfoldable pub behindEnd : List ℕ → ℕ → ℕ
-behindEnd s at = cond (leb (length s) at) 0 (afterEnd (frameAt s at))
 
 -- the package, unless something is refused
 abbrev pub ending : Cursor → Package → Reading

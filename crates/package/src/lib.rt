@@ -8,7 +8,6 @@ ghost use Rattle.package.specs.Answers.{readingOf, refusedWith};
 
 mod classes;
 mod effects;
-mod end;
 mod fields;
 mod header;
 mod methods;
@@ -55,7 +54,7 @@ pub fn read(s: &[u8]) -> Reading
     let f = fields::read_fields(s, c.next, nc);
     let m = methods::read_methods(s, f.next, nd, nc);
     let e = effects::read_effects(s, m.next, nc, f.fields, m.methods);
-    let end = end::read_end(s, e.next);
+    let end = lines::last_line(s, e.next, 7, 0);
     if end.no != 0 {
         return refused(end.no, end.line + 1);
     }

@@ -3,11 +3,11 @@
 use Prim.Native.Nat.{ℕ, suc}
 use mathlib.Core.Path.{_≡_}
 use mathlib.Core.Bool.{cond}
-use mathlib.Core.Option.{Option, none, some}
+use mathlib.Core.Option.{none}
 use mathlib.Core.List.{List, []}
-use lib.Dec.{eqb, leb}
+use lib.Dec.{eqb}
 use lib.ListN.{length, drop}
-use Rattle.meaning.specs.Text.{linesOf, frameAt}
+use Rattle.meaning.specs.Text.{linesOf}
 use Rattle.meaning.specs.Tables.{Package}
 use Rattle.meaning.specs.Reading.{answer}
 use Rattle.runs.specs.Script.{Reader, ScriptReading, isScript, isNone, startOf, readLines, noReader}
@@ -55,14 +55,6 @@ module _ {A T : Type 0} (Holds : List A → T → Type 0) (grow : Reader → Lis
     pub past : nextOf s next k ≡ none
 
 -- ---- the end
-
--- the number that refuses a line behind the last one
-abbrev pub afterEnd : Option (List ℕ) → ℕ
-afterEnd none = 52
-afterEnd (some f) = 55
-
-unfoldable pub behindEnd : List ℕ → ℕ → ℕ
-behindEnd s at = cond (leb (length s) at) 0 (afterEnd (frameAt s at))
 
 -- the start and the steps, unless something is refused
 abbrev pub ending : Cursor → Reader → ScriptReading

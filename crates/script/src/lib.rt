@@ -14,7 +14,6 @@ ghost use Rattle.tables.specs.Held.{Held};
 ghost use Rattle.moves.specs.Below.{Supers};
 ghost use Rattle.script.specs.Answers.{scriptOf, refusedWith, startedWith};
 
-mod end;
 mod entry;
 mod label_lines;
 mod link_lines;
@@ -78,7 +77,7 @@ pub fn read(s: &[u8], t: Tables, rows: &[u64; 254]) -> Script
     let b = link_lines::read_object_links(s, a.next, some, nc, fields, pool, rows);
     let l = label_lines::read_labels(s, b.next, nc, pool, rows);
     let k = step_lines::read_steps(s, l.next, nc, fields, methods);
-    let end = end::read_end(s, k.next);
+    let end = lines::last_line(s, k.next, 0x2F, 50);
     if end.no != 0 {
         return refused(end.no, end.line + 1);
     }

@@ -3,7 +3,9 @@
 use native.Mathlib.Numerals.{add-one}
 use native.Mathlib.Omega.{arith}
 use mathlib.Core.Path.{_∙_}
+use lib.Dec.{lit≤}
 use Rattle.lines.specs.Cursors.{Within}
+use Rattle.package.proofs.Ending.{ended}
 use Rattle.package.proofs.Whole.{read-large, whole-refused, whole-read}
 use borrow.Author.Needs.{needs}
 use Rattle.package.proofs.read.Statement.{statement}
@@ -33,12 +35,12 @@ read-methods-requires c κs = search needs
 read-effects-requires : tie.Need-read-effects-requires
 read-effects-requires c κs = search needs
 
-read-end-requires : tie.Need-read-end-requires
-read-end-requires c κs = search needs
+last-line-requires : tie.Need-last-line-requires
+last-line-requires c κs = (c .read-effects .ensures .going .within, lit≤ tt)
 
 add-refused : tie.Need-add-refused
 add-refused c =
-    let w : Within (c .before .before .before .before .before .before .before .before .before .before .before .before .args .s .now) (c .before .before .before .read-end .result) = c .before .before .before .read-end .ensures .within in
+    let w : Within (c .before .before .before .before .before .before .before .before .before .before .before .before .args .s .now) (c .before .before .before .last-line .result) = ended (c .before .before .before .before .read-effects .ensures .going .within) (c .before .before .before .before .read-effects .ensures .past) (c .before .before .before .last-line .ensures) .within in
     omega (arith, w .at, w .line, c .before .before .before .before .before .before .before .before .before .before .if1 .left)
 
 refused-requires-2 : tie.Need-refused-requires-2
@@ -47,10 +49,10 @@ refused-requires-2 c κs = search needs
 returns-2 : tie.Need-returns-2
 returns-2 c =
     c .refused2 .ensures
-    ∙ rw (whole-refused (c .before .before .before .before .before .before .before .before .before .before .before .if1 .left) (c .before .before .before .before .before .before .before .before .before .before .read-header .ensures) (c .before .before .before .before .before .before .before .before .before .read-pairs .ensures) (c .before .before .before .before .before .before .before .before .read-classes .ensures) (c .before .before .before .before .before .before .before .read-fields .ensures) (c .before .before .before .before .before .before .read-methods .ensures) (c .before .before .before .before .before .read-effects .ensures) (c .before .before .before .before .read-end .ensures) (c .before .before .if2 .taken), add-one)
+    ∙ rw (whole-refused (c .before .before .before .before .before .before .before .before .before .before .before .if1 .left) (c .before .before .before .before .before .before .before .before .before .before .read-header .ensures) (c .before .before .before .before .before .before .before .before .before .read-pairs .ensures) (c .before .before .before .before .before .before .before .before .read-classes .ensures) (c .before .before .before .before .before .before .before .read-fields .ensures) (c .before .before .before .before .before .before .read-methods .ensures) (c .before .before .before .before .before .read-effects .ensures) (ended (c .before .before .before .before .before .read-effects .ensures .going .within) (c .before .before .before .before .before .read-effects .ensures .past) (c .before .before .before .before .last-line .ensures)) (c .before .before .if2 .taken), add-one)
 
 returns-3 : tie.Need-returns-3
-returns-3 c = whole-read (c .before .before .before .before .before .before .before .before .before .before .before .before .before .before .if1 .left) (c .before .before .before .before .before .before .before .before .before .before .before .before .before .read-header .ensures) (c .before .before .before .before .before .before .before .before .before .before .before .before .read-pairs .ensures) (c .before .before .before .before .before .before .before .before .before .before .before .read-classes .ensures) (c .before .before .before .before .before .before .before .before .before .before .read-fields .ensures) (c .before .before .before .before .before .before .before .before .before .read-methods .ensures) (c .before .before .before .before .before .before .before .before .read-effects .ensures) (c .before .before .before .before .before .before .before .read-end .ensures) (c .before .before .before .before .before .if2 .left)
+returns-3 c = whole-read (c .before .before .before .before .before .before .before .before .before .before .before .before .before .before .if1 .left) (c .before .before .before .before .before .before .before .before .before .before .before .before .before .read-header .ensures) (c .before .before .before .before .before .before .before .before .before .before .before .before .read-pairs .ensures) (c .before .before .before .before .before .before .before .before .before .before .before .read-classes .ensures) (c .before .before .before .before .before .before .before .before .before .before .read-fields .ensures) (c .before .before .before .before .before .before .before .before .before .read-methods .ensures) (c .before .before .before .before .before .before .before .before .read-effects .ensures) (ended (c .before .before .before .before .before .before .before .before .read-effects .ensures .going .within) (c .before .before .before .before .before .before .before .before .read-effects .ensures .past) (c .before .before .before .before .before .before .before .last-line .ensures)) (c .before .before .before .before .before .if2 .left)
 
 pub read-spec : {M : Type 1} → statement M
 read-spec =
@@ -64,7 +66,7 @@ read-spec =
     read-fields-requires
     read-methods-requires
     read-effects-requires
-    read-end-requires
+    last-line-requires
     add-refused
     refused-requires-2
     returns-2

@@ -4,8 +4,10 @@ use native.Mathlib.Numerals.{add-one}
 use native.Mathlib.Omega.{arith}
 use mathlib.Core.Path.{_∙_}
 use mathlib.Core.List.{[]}
+use lib.Dec.{lit≤}
 use Rattle.lines.specs.Cursors.{Within}
 use Rattle.script.proofs.Stores.{links-none}
+use Rattle.script.proofs.Ending.{ended}
 use Rattle.script.proofs.Whole.{read-large, few-classes, links-so-far, whole-refused, whole-read}
 use borrow.Author.Needs.{needs}
 use Rattle.script.proofs.read.Statement.{statement}
@@ -40,11 +42,11 @@ read-labels-requires c κs =
 read-steps-requires : tie.Need-read-steps-requires
 read-steps-requires c κs = (c .read-labels .ensures .going .within, c .before .before .before .before .before .before .before .before .before .before .if1 .left)
 
-read-end-requires : tie.Need-read-end-requires
-read-end-requires c κs = search needs
+last-line-requires : tie.Need-last-line-requires
+last-line-requires c κs = (c .read-steps .ensures .going .within, lit≤ tt)
 
 add-refused : tie.Need-add-refused
-add-refused c = let w : Within (c .before .before .before .before .before .before .before .before .before .before .before .before .before .before .before .before .before .args .s .now) (c .before .before .before .read-end .result) = c .before .before .before .read-end .ensures .within in omega (arith, w .at, w .line, c .before .before .before .before .before .before .before .before .before .before .before .before .before .before .before .if1 .left)
+add-refused c = let w : Within (c .before .before .before .before .before .before .before .before .before .before .before .before .before .before .before .before .before .args .s .now) (c .before .before .before .last-line .result) = ended (c .before .before .before .before .read-steps .ensures .going .within) (c .before .before .before .before .read-steps .ensures .past) (c .before .before .before .last-line .ensures) .within in omega (arith, w .at, w .line, c .before .before .before .before .before .before .before .before .before .before .before .before .before .before .before .if1 .left)
 
 refused-requires-2 : tie.Need-refused-requires-2
 refused-requires-2 c κs = search needs
@@ -54,7 +56,7 @@ returns-2 c =
     let a = c .before .before .before .before .before .before .before .before .before .read-static-links .ensures [] (c .before .before .before .before .before .before .before .before .before .before .no-links .ensures ∙ links-none) in
     let b = c .before .before .before .before .before .before .before .read-object-links .ensures (a .going .list) (a .going .holds) in
     c .refused2 .ensures
-    ∙ rw (whole-refused (c .before .before .before .before .before .before .before .before .before .before .before .before .before .before .before .before .before .before .pre .0) (c .before .before .before .before .before .before .before .before .before .before .before .before .before .before .before .before .before .before .pre .1) (c .before .before .before .before .before .before .before .before .before .before .before .before .before .before .before .before .if1 .left) (c .before .before .before .before .before .before .before .before .before .before .before .before .before .read-entry .ensures) (c .before .before .before .before .before .before .before .before .before .before .before .before .read-objects .ensures) a b (c .before .before .before .before .before .before .read-labels .ensures) (c .before .before .before .before .before .read-steps .ensures) (c .before .before .before .before .read-end .ensures) (c .before .before .if2 .taken), add-one)
+    ∙ rw (whole-refused (c .before .before .before .before .before .before .before .before .before .before .before .before .before .before .before .before .before .before .pre .0) (c .before .before .before .before .before .before .before .before .before .before .before .before .before .before .before .before .before .before .pre .1) (c .before .before .before .before .before .before .before .before .before .before .before .before .before .before .before .before .if1 .left) (c .before .before .before .before .before .before .before .before .before .before .before .before .before .read-entry .ensures) (c .before .before .before .before .before .before .before .before .before .before .before .before .read-objects .ensures) a b (c .before .before .before .before .before .before .read-labels .ensures) (c .before .before .before .before .before .read-steps .ensures) (ended (c .before .before .before .before .before .read-steps .ensures .going .within) (c .before .before .before .before .before .read-steps .ensures .past) (c .before .before .before .before .last-line .ensures)) (c .before .before .if2 .taken), add-one)
 
 started-requires : tie.Need-started-requires
 started-requires c κs = search needs
@@ -64,7 +66,7 @@ returns-3 c =
     let a = c .before .before .before .before .before .before .before .before .before .before .before .read-static-links .ensures [] (c .before .before .before .before .before .before .before .before .before .before .before .before .no-links .ensures ∙ links-none) in
     let b = c .before .before .before .before .before .before .before .before .before .read-object-links .ensures (a .going .list) (a .going .holds) in
     rw (c .before .started .ensures)
-    (whole-read (c .before .before .before .before .before .before .before .before .before .before .before .before .before .before .before .before .before .before .before .before .pre .0) (c .before .before .before .before .before .before .before .before .before .before .before .before .before .before .before .before .before .before .before .before .pre .1) (c .before .before .before .before .before .before .before .before .before .before .before .before .before .before .before .before .before .before .if1 .left) (c .before .before .before .before .before .before .before .before .before .before .before .before .before .before .before .read-entry .ensures) (c .before .before .before .before .before .before .before .before .before .before .before .before .before .before .read-objects .ensures) a b (c .before .before .before .before .before .before .before .before .read-labels .ensures) (c .before .before .before .before .before .before .before .read-steps .ensures) (c .before .before .before .before .before .before .read-end .ensures) (c .before .before .before .before .if2 .left))
+    (whole-read (c .before .before .before .before .before .before .before .before .before .before .before .before .before .before .before .before .before .before .before .before .pre .0) (c .before .before .before .before .before .before .before .before .before .before .before .before .before .before .before .before .before .before .before .before .pre .1) (c .before .before .before .before .before .before .before .before .before .before .before .before .before .before .before .before .before .before .if1 .left) (c .before .before .before .before .before .before .before .before .before .before .before .before .before .before .before .read-entry .ensures) (c .before .before .before .before .before .before .before .before .before .before .before .before .before .before .read-objects .ensures) a b (c .before .before .before .before .before .before .before .before .read-labels .ensures) (c .before .before .before .before .before .before .before .read-steps .ensures) (ended (c .before .before .before .before .before .before .before .read-steps .ensures .going .within) (c .before .before .before .before .before .before .before .read-steps .ensures .past) (c .before .before .before .before .before .before .last-line .ensures)) (c .before .before .before .before .if2 .left))
 
 pub read-spec : {M : Type 1} → statement M
 read-spec =
@@ -79,7 +81,7 @@ read-spec =
     read-object-links-requires
     read-labels-requires
     read-steps-requires
-    read-end-requires
+    last-line-requires
     add-refused
     refused-requires-2
     returns-2

@@ -1,12 +1,12 @@
 -- What holds the lists of the sections: empty at first; one line more is one store, or none where a set has its link or label; and together
 -- they are the start.
 -- Assumes nothing.
-use Prim.Native.Nat.{ℕ, _+_, _≤_, _<_}
+use Prim.Native.Nat.{_+_, _≤_, _<_}
 use native.Mathlib.Omega.{arith}
 use mathlib.Core.Path.{_≡_, refl, sym, ap, _∙_}
 use mathlib.Core.Bool.{Bool, true, false, cond}
 use mathlib.Core.List.{List, [], _∷_, _++_, map}
-use lib.ListN.{length, take, set, length-append, length-map}
+use lib.ListN.{length, set, length-append}
 use Rattle.meaning.specs.Lists.{any}
 use Rattle.runs.specs.Machine as M
 use Rattle.runs.specs.Machine.{sameLink, sameLabel, add, addAll}
@@ -19,7 +19,7 @@ use Rattle.tables.specs.Pack.{pad}
 use Rattle.tables.proofs.Pack.{stored, viewed}
 use Rattle.state.specs.declared.Link.{Link}
 use Rattle.state.specs.declared.Label.{Label}
-use Rattle.state.specs.View.{noLink, noLabel, linkView, labelView, linksView, frameView, packLink, packLabel, packContexts, packFrames, packPool, pack}
+use Rattle.state.specs.View.{noLink, noLabel, linkView, labelView, frameView, packLink, packLabel, packContexts, packFrames, packPool, pack}
 use Rattle.steps.specs.declared.Step.{Step}
 use Rattle.steps.specs.declared.Steps.{Steps}
 use Rattle.steps.specs.View.{zeroStep}

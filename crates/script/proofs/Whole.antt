@@ -2,7 +2,7 @@
 -- Assumes nothing.
 use Prim.Native.Nat.{ℕ, _≤_, _<_}
 use native.Mathlib.Omega.{arith}
-use mathlib.Core.Path.{_≡_, refl, sym, ap, _∙_}
+use mathlib.Core.Path.{_≡_, sym, ap, _∙_}
 use mathlib.Core.List.{List, []}
 use lib.Dec.{lit≤, lit<}
 use lib.ListN.{length}
@@ -14,7 +14,6 @@ use Rattle.meaning.specs.Reading.{answer}
 use Rattle.runs.specs.Machine as M
 use Rattle.runs.specs.Script.{Reader, isNone, readLines, noReader, readScript}
 use Rattle.tables.specs.declared.Classes.{Classes}
-use Rattle.tables.specs.declared.Fields.{Fields}
 use Rattle.tables.specs.declared.Methods.{Methods}
 use Rattle.tables.specs.declared.Tables.{Tables}
 use Rattle.tables.specs.View.{view}
@@ -28,11 +27,11 @@ use Rattle.lines.specs.declared.Cursor.{Cursor}
 use Rattle.script.specs.declared.entry.Entry.{Entry}
 use Rattle.script.specs.declared.link_lines.LinkLines.{LinkLines}
 use Rattle.script.specs.declared.label_lines.LabelLines.{LabelLines}
-use Rattle.script.specs.Sections.{inSection, opened, refusal, ending, EntryRead, Section, Ended}
+use Rattle.script.specs.Sections.{opened, refusal, ending, EntryRead, Section, Ended}
 use Rattle.script.specs.Lists.{withObjects, HasClasses, HoldsLinks, SomeLinks, withLinks, HasFields, HoldsLabels, withLabels, HasObjects, HoldsSteps, withSteps, HasDeclared}
 use Rattle.script.specs.Answers.{startedWith, scriptOf}
 use Rattle.script.proofs.Order.{advance}
-use Rattle.script.proofs.Stores.{links-none, start-packed}
+use Rattle.script.proofs.Stores.{start-packed}
 
 module _ (P : Package) (s : List ℕ) where
   pub read-large : 32768 < length s → readScript P s ≡ isNone (answer 51 0 0)

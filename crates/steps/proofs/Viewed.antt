@@ -1,9 +1,8 @@
 -- Steps are viewed as they were packed.
 -- Assumes nothing.
-use Prim.Native.Nat.{ℕ}
 use mathlib.Core.Path.{_≡_, refl, ap}
-use mathlib.Core.List.{List, []}
-use lib.ListN.{length, replicate}
+use mathlib.Core.List.{List}
+use lib.ListN.{length}
 use lib.Seq.{take-at}
 use Rattle.runs.specs.Machine as M
 use Rattle.runs.specs.Run.{Placed, placed}

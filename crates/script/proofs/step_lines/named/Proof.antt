@@ -1,9 +1,8 @@
+-- `named` looks each number of the frame up in its table.
+-- Assumes nothing.
 use borrow.Author.Needs.{needs}
 use Rattle.script.proofs.step_lines.named.Statement.{statement}
 use Rattle.script.proofs.step_lines.named.Tie as tie
-use Rattle.script.proofs.step_lines.named.Reads as reads
-use Rattle.script.proofs.step_lines.named.Lts as lts
-use Rattle.lines.proofs.wide.Reads as wide-reads
 
 element-copy-out-wide : tie.Need-element-copy-out-wide
 element-copy-out-wide c = search needs

@@ -26,7 +26,7 @@ pass-requires c κs =
     let f = c .before .before .before .before .pre .0 in
     let h = c .before .before .if1 .left in
     let m = received f (a .called .result) (a .v) h (entered-means f (a .called .result) (a .v) h _ (c .before .push .ensures)) _ _ _ (c .put .ensures) in
-    (means-fine m, (omega (arith, received-few f (a .called .result) (a .v) h (a .r) (a .runs .class) m), (search needs, (c .before .before .before .before .pre .1 .0, c .before .before .before .before .pre .1 .1))))
+    (means-fine m, (omega (arith, received-few f (a .called .result) (a .v) h _ _ m), (search needs, (c .before .before .before .before .pre .1 .0, c .before .before .before .before .pre .1 .1))))
 
 returns-2 : tie.Need-returns-2
 returns-2 c =

@@ -57,7 +57,7 @@ unfolding firstPlace firstIn
 place-same n f g h = first-same _ _ n (λ a l. first-same (λ (b : ℕ). placed a b (f a b)) (λ (b : ℕ). placed a b (g a b)) n (λ b k. ap (placed a b) (h a b l k)))
 
 -- a number by the numbers that it may be
-by-rule : (Q : ℕ → Type 0) → Q 10 → Q 11 → Q 12 → Q 21 → Q 22 → Q 23 → Q 24
+pub by-rule : (Q : ℕ → Type 0) → Q 10 → Q 11 → Q 12 → Q 21 → Q 22 → Q 23 → Q 24
     → ((r : ℕ) → (r ≡ 10 → ⊥) → (r ≡ 11 → ⊥) → (r ≡ 12 → ⊥) → (r ≡ 21 → ⊥) → (r ≡ 22 → ⊥) → (r ≡ 23 → ⊥) → (r ≡ 24 → ⊥) → Q r) → (r : ℕ) → Q r
 by-rule Q q10 q11 q12 q21 q22 q23 q24 q r =
     at 10 q10 (λ n10. at 11 q11 (λ n11. at 12 q12 (λ n12. at 21 q21 (λ n21. at 22 q22 (λ n22. at 23 q23 (λ n23. at 24 q24 (λ n24. q r n10 n11 n12 n21 n22 n23 n24)))))))
@@ -70,10 +70,10 @@ by-rule Q q10 q11 q12 q21 q22 q23 q24 q r =
         on (no n) = f n
 
 -- a test of methods that passes is of two instance methods of one slot
-second : (p o q : Bool) → T (p && (o && q)) → T o
+pub second : (p o q : Bool) → T (p && (o && q)) → T o
 second p o q t = both o q (both p (o && q) t .1) .0
 
-leading : (o p q : Bool) → T ((o && p) && q) → T o
+pub leading : (o p q : Bool) → T ((o && p) && q) → T o
 leading o p q t = both o p (both (o && p) q t .0) .0
 
 module _ (homes doms supers apart above : List ℕ) (a b : ℕ) (x y : Method) where
@@ -134,7 +134,7 @@ module _ (t : Tables) (held : Held t) {homes doms supers apart above : List ℕ}
   good : Good P
   good = held .good
 
-  fits : (m : ℕ) → m < length (P .methods) → Fits (getD ms m blank)
+  pub fits : (m : ℕ) → m < length (P .methods) → Fits (getD ms m blank)
   unfolding ownerOf labelOf paramsOf
   fits m h = subst Fits (sym (method-is m h)) packed
     where
@@ -198,22 +198,13 @@ module _ (t : Tables) (held : Held t) {homes doms supers apart above : List ℕ}
       one : (a : ℕ) → a < sizeOf rule P → _≡_ {A = ℕ} (getD (replicate 256 1) a 0) 1
       one a h = getD-replicate 256 a 1 0 (omega (arith, few rule))
 
-  -- pairs of one slot are looked at
-  pub searches-slots : (rule : ℕ) (keys starts nexts : List ℕ) → (rule ≡ 10 → ⊥) → (rule ≡ 21 → ⊥) → (rule ≡ 22 → ⊥)
-      → ((m : ℕ) → m < length (P .methods) → getD keys m 0 ≡ getD ms m blank .slot) → Visited keys (length (P .methods)) starts nexts
-      → Searches rule (length (P .methods)) ms (by rule) starts nexts
-  unfolding sizeOf byOf oneSlotBy slotOf Q passes
-  searches-slots rule keys starts nexts n10 n21 n22 is v =
-      record {
-        few = good .few-methods;
-        asks = λ a b h l. asks rule a b (rw (ne-eqb rule 10 n10, ne-eqb rule 21 n21, ne-eqb rule 22 n22) h) (rw (ne-eqb rule 10 n10, ne-eqb rule 21 n21, ne-eqb rule 22 n22) l);
-        covers = record { keys = keys; visited = v; same = same; keyed = keyed };
-      }
+  -- pairs of one slot are looked at: a test that passes at no other pair leaves none out
+  pub covers-slots : (test : ℕ → ℕ → Bool) (keys starts nexts : List ℕ) → ((a b : ℕ) → test a b ≡ true → T (oneSlotBy (getD ms a blank) (getD ms b blank)))
+      → ((m : ℕ) → m < length (P .methods) → getD keys m 0 ≡ getD ms m blank .slot) → Visited keys (length (P .methods)) starts nexts → Covers (length (P .methods)) test starts nexts
+  unfolding oneSlotBy slotOf
+  covers-slots test keys starts nexts slot is v = record { keys = keys; visited = v; same = same; keyed = keyed }
     where
-      slot : (a b : ℕ) → by rule a b ≡ true → T (oneSlotBy (getD ms a blank) (getD ms b blank))
-      slot a b t = one-slot homes doms supers apart above a b (getD ms a blank) (getD ms b blank) rule n10 n21 n22 (true-passes _ t)
-
-      same : (a b : ℕ) → a < length (P .methods) → b < length (P .methods) → by rule a b ≡ true → getD keys b 0 ≡ getD keys a 0
+      same : (a b : ℕ) → a < length (P .methods) → b < length (P .methods) → test a b ≡ true → getD keys b 0 ≡ getD keys a 0
       same a b h l t =
           let x = getD ms a blank in
           let y = getD ms b blank in
@@ -221,13 +212,24 @@ module _ (t : Tables) (held : Held t) {homes doms supers apart above : List ℕ}
           let v = both (eqb (y .stat) 0) (eqb (x .slot) (y .slot)) (u .1) in
           is b l ∙ sym (eqb→eq (x .slot) (y .slot) (v .1)) ∙ sym (is a h)
 
-      keyed : (a b : ℕ) → a < length (P .methods) → b < length (P .methods) → by rule a b ≡ true → getD keys a 0 ≡ 0 → ⊥
+      keyed : (a b : ℕ) → a < length (P .methods) → b < length (P .methods) → test a b ≡ true → getD keys a 0 ≡ 0 → ⊥
       keyed a b h l t e =
           let x = getD ms a blank in
           let u = both (eqb (x .stat) 0) _ (slot a b t) in
           let z : (methodAt P a) .static ≡ 0 = sym (ap (λ (z : Method). z .stat) (method-is a h)) ∙ eqb→eq (x .stat) 0 (u .0) in
           let q : slotOf P a ≡ 0 = sym (ap (λ (z : Method). z .slot) (method-is a h)) ∙ sym (is a h) ∙ e in
           omega (arith, good .methods a h .slot .1 z)
+
+  searches-slots : (rule : ℕ) (keys starts nexts : List ℕ) → (rule ≡ 10 → ⊥) → (rule ≡ 21 → ⊥) → (rule ≡ 22 → ⊥)
+      → ((m : ℕ) → m < length (P .methods) → getD keys m 0 ≡ getD ms m blank .slot) → Visited keys (length (P .methods)) starts nexts
+      → Searches rule (length (P .methods)) ms (by rule) starts nexts
+  unfolding sizeOf byOf Q passes
+  searches-slots rule keys starts nexts n10 n21 n22 is v =
+      record {
+        few = good .few-methods;
+        asks = λ a b h l. asks rule a b (rw (ne-eqb rule 10 n10, ne-eqb rule 21 n21, ne-eqb rule 22 n22) h) (rw (ne-eqb rule 10 n10, ne-eqb rule 21 n21, ne-eqb rule 22 n22) l);
+        covers = covers-slots (by rule) keys starts nexts (λ a b t. one-slot homes doms supers apart above a b (getD ms a blank) (getD ms b blank) rule n10 n21 n22 (true-passes _ t)) is v;
+      }
 
   -- ---- as the code goes
 
@@ -238,7 +240,7 @@ module _ (t : Tables) (held : Held t) {homes doms supers apart above : List ℕ}
   unfolding sizeOf view
   size-is rule = ap₂ (sizeBy rule (t .domains)) ((held-classes t held) .count) ((held-methods t held) .count)
 
-  methods-rule : (rule : ℕ) → ofMethods rule ≡ true → (rule ≡ 10 → ⊥) × (rule ≡ 21 → ⊥) × (rule ≡ 22 → ⊥)
+  pub methods-rule : (rule : ℕ) → ofMethods rule ≡ true → (rule ≡ 10 → ⊥) × (rule ≡ 21 → ⊥) × (rule ≡ 22 → ⊥)
   unfolding ofMethods
   methods-rule rule e =
       let u = both (not (eqb rule 10)) _ (true-passes _ e) in

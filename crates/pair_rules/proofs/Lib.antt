@@ -5,3 +5,4 @@ pub mod Filled
 pub mod Visiting
 pub mod Stepwise
 pub mod Judged
+pub mod Together

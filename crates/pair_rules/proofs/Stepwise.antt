@@ -101,7 +101,7 @@ module _ (P : Package) where
       down b l c s m k = decides-suspicious P c b .sound (f b l c s m (decides-suspicious P s b .complete k))
 
 -- a test that passes nowhere finds nothing
-nowhere : (n : ℕ) (f : ℕ → ℕ → Bool) → ((a b : ℕ) → a < n → b < n → f a b ≡ false) → firstPlace n (λ _. n) f ≡ none
+pub nowhere : (n : ℕ) (f : ℕ → ℕ → Bool) → ((a b : ℕ) → a < n → b < n → f a b ≡ false) → firstPlace n (λ _. n) f ≡ none
 nowhere n f h = on (firstPlace n (λ _. n) f) refl
   where
     on : (x : Option Place) → firstPlace n (λ _. n) f ≡ x → x ≡ none

@@ -2,8 +2,8 @@
 -- Assumes nothing.
 use Prim.Native.Nat.{ℕ, _<_}
 use mathlib.Core.Path.{_≡_}
-use mathlib.Core.Bool.{Bool, _&&_, not, cond}
-use mathlib.Core.Option.{Option}
+use mathlib.Core.Bool.{Bool, true, false, _&&_, not, cond}
+use mathlib.Core.Option.{Option, none, some}
 use mathlib.Core.List.{List, [], _∷_}
 use lib.Dec.{eqb}
 use lib.ListN.{length, getD}
@@ -38,3 +38,12 @@ pub record BySlot (ms : List Method) (n : ℕ) (starts nexts : List ℕ) : Type 
   pub keys : List ℕ
   pub slots : (m : ℕ) → m < n → getD keys m 0 ≡ getD ms m blank .slot
   pub visited : Visited keys n starts nexts
+
+-- whether there is a place
+abbrev pub isPlace : Option Place → Bool
+isPlace none = false
+isPlace (some p) = true
+
+-- where this says false, no rule of methods is broken
+pub record Broken (P : Package) (broken : Bool) : Type 0 where
+  pub nowhere : broken ≡ false → (rule : ℕ) → ofMethods rule ≡ true → foundBy rule P ≡ none

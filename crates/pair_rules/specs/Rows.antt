@@ -44,3 +44,9 @@ pub record Searches (rule n : ℕ) (ms : List Method) (test : ℕ → ℕ → Bo
   pub few : n ≤ 256
   pub asks : (a b : ℕ) → a < n → b < n → Asks rule a b (getD ms a blank) (getD ms b blank)
   pub covers : Covers n test starts nexts
+
+-- what a search among n methods for a pair that breaks some rule of methods asks
+pub record SearchesSome (n : ℕ) (ms : List Method) (test : ℕ → ℕ → Bool) (starts nexts : List ℕ) : Type 0 where
+  pub few : n ≤ 256
+  pub fits : (a : ℕ) → a < n → Fits (getD ms a blank)
+  pub covers : Covers n test starts nexts

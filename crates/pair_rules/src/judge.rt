@@ -9,7 +9,7 @@ ghost use Rattle.meaning.specs.Check.{firstFound, tableFindings};
 ghost use Rattle.tables.specs.View.{view};
 ghost use Rattle.tables.specs.Held.{Held};
 ghost use Rattle.pair_rules.specs.Rows.{Known};
-ghost use Rattle.pair_rules.specs.Judged.{sizeBy, foundBy, ofMethods, BySlot};
+ghost use Rattle.pair_rules.specs.Judged.{sizeBy, foundBy, ofMethods, BySlot, Broken};
 
 const TABLE_RULES: [u8; 8] = [10, 11, 12, 21, 22, 23, 24, 25];
 
@@ -44,6 +44,7 @@ fn find(
     rule: u8,
     t: Tables,
     chains: Visits,
+    broken: bool,
     homes: &[u8; 127],
     doms: &[u32; 32],
     supers: &[u64; 254],
@@ -53,12 +54,16 @@ fn find(
     requires { ⌜ Held t ⌝ }
     requires { ⌜ Known (view t) (now homes) (now doms) (now supers) (now apart) (now above) ⌝ }
     requires { ⌜ BySlot (t .methods .at) (t .methods .n) (chains .starts) (chains .nexts) ⌝ }
+    requires { ⌜ Broken (view t) broken ⌝ }
     ensures { λ r. ⌜ r ≡ foundOf (foundBy rule (view t)) ⌝ }
 {
     let methods = t.methods;
     let classes = t.classes;
     let n = size_of(rule, t.domains, classes.n, methods.n);
     if of_methods(rule) {
+        if !broken {
+            return Found::Nothing;
+        }
         return crate::search::first_pair(
             rule,
             n,
@@ -95,9 +100,10 @@ pub fn table_rules(
     let n = methods.n;
     let keys = crate::visits::slots(methods);
     let chains = crate::visits::visits_of(&keys, n);
+    let broken = crate::search::some_broken(n, chains, methods, homes, doms, supers);
     for i in 0..8 {
         let rule = TABLE_RULES[i];
-        if let Found::At(a, b) = find(rule, t, chains, homes, doms, supers, apart, above) {
+        if let Found::At(a, b) = find(rule, t, chains, broken, homes, doms, supers, apart, above) {
             return Answer {
                 number: rule,
                 first: a as u16,

@@ -1,9 +1,9 @@
-// The test of a rule by its number.
+// The test of a rule by its number, and of all rules of methods together.
 use tables::Method;
 ghost use mathlib.Core.Path.{_≡_};
 ghost use Rattle.homes.specs.Homes.{Small};
-ghost use Rattle.pair_rules.specs.Rows.{Asks};
-ghost use Rattle.pair_rules.specs.Tests.{testOf};
+ghost use Rattle.pair_rules.specs.Rows.{Asks, Fits};
+ghost use Rattle.pair_rules.specs.Tests.{testOf, bySome};
 
 pub(crate) fn breaks(
     rule: u8,
@@ -31,4 +31,33 @@ pub(crate) fn breaks(
         24 => crate::tests::breaks_24(homes, doms, supers, x, y),
         _ => crate::tests::breaks_25(homes, doms, supers, x, y),
     }
+}
+
+pub(crate) fn breaks_some(
+    homes: &[u8; 127],
+    doms: &[u32; 32],
+    supers: &[u64; 254],
+    a: usize,
+    b: usize,
+    x: Method,
+    y: Method,
+) -> bool
+    requires { ⌜ Small (now homes) ⌝ }
+    requires { ⌜ Fits x ⌝ }
+    requires { ⌜ Fits y ⌝ }
+    ensures { λ r. ⌜ r ≡ bySome (now (homes .entry)) (now (doms .entry)) (now (supers .entry)) a b x y ⌝ }
+{
+    if crate::tests::breaks_11(a, b, x, y) {
+        return true;
+    }
+    if crate::tests::breaks_12(a, b, x, y) {
+        return true;
+    }
+    if crate::tests::breaks_23(doms, supers, x, y) {
+        return true;
+    }
+    if crate::tests::breaks_24(homes, doms, supers, x, y) {
+        return true;
+    }
+    crate::tests::breaks_25(homes, doms, supers, x, y)
 }

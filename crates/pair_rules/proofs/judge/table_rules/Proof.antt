@@ -6,20 +6,22 @@ use native.Mathlib.Omega.{arith}
 use Rattle.tables.specs.View.{view}
 use Rattle.tables.proofs.Views.{held-methods}
 use Rattle.found.specs.Found.{answerOf}
-use Rattle.pair_rules.specs.Judged.{BySlot, foundBy, tableNumbers}
+use Rattle.pair_rules.specs.Judged.{BySlot, Broken, foundBy, tableNumbers}
 use Rattle.meaning.specs.Check.{firstFound}
 use lib.ListN.{getD}
 use Rattle.pair_rules.proofs.Judged.{few, table-findings, found-places}
 use Rattle.found.proofs.Named.{Left, left-all, left-more, left-hit, left-done}
+use Rattle.homes.proofs.Laws.{small}
+use Rattle.pair_rules.proofs.Together.{search-some, none-broken}
 use borrow.Author.Needs.{needs}
 use Rattle.pair_rules.proofs.judge.table_rules.Statement.{statement}
 use Rattle.pair_rules.proofs.judge.table_rules.Tie as tie
 
 abbrev Inv-loop : tie.InvT-loop
-Inv-loop t homes doms supers apart above n chains i₀ i = (i ≤ 8) × Left (λ (r : ℕ). foundBy r (view t)) tableNumbers i × BySlot (t .methods .at) (t .methods .n) (chains .starts) (chains .nexts)
+Inv-loop t homes doms supers apart above n chains broken i₀ i = (i ≤ 8) × Left (λ (r : ℕ). foundBy r (view t)) tableNumbers i × BySlot (t .methods .at) (t .methods .n) (chains .starts) (chains .nexts) × Broken (view t) broken
 
 abbrev μ-loop : tie.MeasureT-loop
-μ-loop t homes doms supers apart above n chains i₀ i = 8 - i
+μ-loop t homes doms supers apart above n chains broken i₀ i = 8 - i
 
 slots-requires : tie.Need-slots-requires Inv-loop μ-loop
 slots-requires c κs = omega (arith, held-methods (c .before .args .t) (c .before .pre .0) .count, c .before .pre .0 .good .few-methods)
@@ -27,26 +29,35 @@ slots-requires c κs = omega (arith, held-methods (c .before .args .t) (c .befor
 visits-of-requires : tie.Need-visits-of-requires Inv-loop μ-loop
 visits-of-requires c κs = omega (arith, held-methods (c .before .before .before .args .t) (c .before .before .before .pre .0) .count, c .before .before .before .pre .0 .good .few-methods)
 
+some-broken-requires : tie.Need-some-broken-requires Inv-loop μ-loop
+some-broken-requires c κs =
+    (small (c .before .before .before .before .pre .1 .rows), search-some _ (c .before .before .before .before .pre .0) (c .before .before .before .before .pre .1) _ _ (record { keys = c .before .before .slots .result; slots = c .before .before .slots .ensures; visited = c .visits-of .ensures }))
+
 loop-holds : tie.Need-loop-holds Inv-loop μ-loop
-loop-holds c = (omega arith, left-all _ _, record { keys = c .before .before .slots .result; slots = c .before .before .slots .ensures; visited = c .visits-of .ensures })
+loop-holds c = (
+  omega arith,
+  left-all _ _,
+  record { keys = c .before .before .before .slots .result; slots = c .before .before .before .slots .ensures; visited = c .before .visits-of .ensures },
+  none-broken _ (c .before .before .before .before .before .pre .0) (c .before .before .before .before .before .pre .1) (c .some-broken .ensures),
+)
 
 array-read-rule : tie.Need-array-read-rule Inv-loop μ-loop
 array-read-rule c = omega arith
 
 find-requires : tie.Need-find-requires Inv-loop μ-loop
-find-requires c κs = (c .before .before .before .before .before .before .pre .0, (c .before .before .before .before .before .before .pre .1, c .before .loop .inv .2))
+find-requires c κs = (c .before .before .before .before .before .before .before .pre .0, (c .before .before .before .before .before .before .before .pre .1, (c .before .loop .inv .2, c .before .loop .inv .3)))
 
 enum-known-a : tie.Need-enum-known-a Inv-loop μ-loop
 enum-known-a c = search needs
 
-cast-t23 : tie.Need-cast-t23 Inv-loop μ-loop
-cast-t23 c = record { fits = omega (arith, found-places (view (c .before .before .before .before .before .before .before .before .before .before .args .t)) (getD tableNumbers (c .before .before .before .before .before .loop .i) 0) _ _ (sym (c .before .before .before .find .ensures) ∙ c .before .a .given .1) .0, few (c .before .before .before .before .before .before .before .before .before .before .args .t) (c .before .before .before .before .before .before .before .before .before .before .pre .0) (c .before .before .before .before .before .before .before .before .before .before .pre .1) (getD tableNumbers (c .before .before .before .before .before .loop .i) 0)) }
-
 cast-t24 : tie.Need-cast-t24 Inv-loop μ-loop
-cast-t24 c = record { fits = omega (arith, found-places (view (c .before .before .before .before .before .before .before .before .before .before .args .t)) (getD tableNumbers (c .before .before .before .before .before .loop .i) 0) _ _ (sym (c .before .before .before .find .ensures) ∙ c .before .a .given .1) .1, few (c .before .before .before .before .before .before .before .before .before .before .args .t) (c .before .before .before .before .before .before .before .before .before .before .pre .0) (c .before .before .before .before .before .before .before .before .before .before .pre .1) (getD tableNumbers (c .before .before .before .before .before .loop .i) 0)) }
+cast-t24 c = record { fits = omega (arith, found-places (view (c .before .before .before .before .before .before .before .before .before .before .before .args .t)) (getD tableNumbers (c .before .before .before .before .before .loop .i) 0) _ _ (sym (c .before .before .before .find .ensures) ∙ c .before .a .given .1) .0, few (c .before .before .before .before .before .before .before .before .before .before .before .args .t) (c .before .before .before .before .before .before .before .before .before .before .before .pre .0) (c .before .before .before .before .before .before .before .before .before .before .before .pre .1) (getD tableNumbers (c .before .before .before .before .before .loop .i) 0)) }
+
+cast-t25 : tie.Need-cast-t25 Inv-loop μ-loop
+cast-t25 c = record { fits = omega (arith, found-places (view (c .before .before .before .before .before .before .before .before .before .before .before .args .t)) (getD tableNumbers (c .before .before .before .before .before .loop .i) 0) _ _ (sym (c .before .before .before .find .ensures) ∙ c .before .a .given .1) .1, few (c .before .before .before .before .before .before .before .before .before .before .before .args .t) (c .before .before .before .before .before .before .before .before .before .before .before .pre .0) (c .before .before .before .before .before .before .before .before .before .before .before .pre .1) (getD tableNumbers (c .before .before .before .before .before .loop .i) 0)) }
 
 returns : tie.Need-returns Inv-loop μ-loop
-returns c = ap answerOf (sym (ap firstFound (table-findings (view (c .before .before .before .before .before .before .before .before .before .before .args .t))) ∙ left-hit _ _ _ (c .before .before .before .before .loop-test .taken) _ _ (sym (c .before .before .before .find .ensures) ∙ c .before .a .given .1) (c .before .before .before .before .before .loop .inv .1)))
+returns c = ap answerOf (sym (ap firstFound (table-findings (view (c .before .before .before .before .before .before .before .before .before .before .before .args .t))) ∙ left-hit _ _ _ (c .before .before .before .before .loop-test .taken) _ _ (sym (c .before .before .before .find .ensures) ∙ c .before .a .given .1) (c .before .before .before .before .before .loop .inv .1)))
 
 enum-told : tie.Need-enum-told Inv-loop μ-loop
 enum-told c = search needs
@@ -58,10 +69,10 @@ loop-less : tie.Need-loop-less Inv-loop μ-loop
 loop-less c = search needs
 
 loop-again : tie.Need-loop-again Inv-loop μ-loop
-loop-again c = (omega arith, left-more _ _ _ (c .before .before .before .loop-test .taken) (sym (c .before .before .find .ensures) ∙ c .enum-told .given .1) (c .before .before .before .before .loop .inv .1), c .before .before .before .before .loop .inv .2)
+loop-again c = (omega arith, left-more _ _ _ (c .before .before .before .loop-test .taken) (sym (c .before .before .find .ensures) ∙ c .enum-told .given .1) (c .before .before .before .before .loop .inv .1), c .before .before .before .before .loop .inv .2, c .before .before .before .before .loop .inv .3)
 
 returns-2 : tie.Need-returns-2 Inv-loop μ-loop
-returns-2 c = ap answerOf (sym (ap firstFound (table-findings (view (c .before .before .before .before .before .before .args .t))) ∙ left-done _ _ _ (c .loop-test .left) (c .before .loop .inv .1)))
+returns-2 c = ap answerOf (sym (ap firstFound (table-findings (view (c .before .before .before .before .before .before .before .args .t))) ∙ left-done _ _ _ (c .loop-test .left) (c .before .loop .inv .1)))
 
 pub table-rules-spec : {M : Type 1} → statement M
 table-rules-spec =
@@ -71,12 +82,13 @@ table-rules-spec =
     μ-loop
     slots-requires
     visits-of-requires
+    some-broken-requires
     loop-holds
     array-read-rule
     find-requires
     enum-known-a
-    cast-t23
     cast-t24
+    cast-t25
     returns
     enum-told
     add-i

@@ -3,3 +3,4 @@ pub mod Sites
 pub mod Rules
 pub mod Turns
 pub mod Findings
+pub mod Together

@@ -88,11 +88,11 @@ row-false f zero = row-none
 row-false {test} {a} f (suc n) = subst (ClearRow test a) (add-one n) (row-more (row-false f n) (f n))
 
 -- the places that are looked at are all, or none where nothing can pass
-abbrev AllOrNone : ℕ → Site → Package → ℕ → Type 0
+abbrev pub AllOrNone : ℕ → Site → Package → ℕ → Type 0
 AllOrNone rule s P i = (placesOf rule s ≡ secondsOf rule P i) ⊎ ((placesOf rule s ≡ 0) × ((j : ℕ) → breaksOf rule P i j ≡ false))
 
 module _ {homes doms : List ℕ} {s : Site} {P : Package} {i : ℕ} (a : Seen homes doms s P i) (rule : ℕ) where
-  all-or-none : AllOrNone rule s P i
+  pub all-or-none : AllOrNone rule s P i
   unfolding placesOf secondsOf breaksOf
   all-or-none = on (ℕ-discrete rule 30) (decLt (s .effect .op) 6)
     where

@@ -1,12 +1,12 @@
 -- The search over effects, one for the five rules: by a rule's number its test and its second places.
 -- Assumes nothing.
 use Prim.Native.Nat.{ℕ, _≤_}
-use mathlib.Core.Bool.{Bool, cond}
+use mathlib.Core.Bool.{Bool, _||_, cond}
 use mathlib.Core.Option.{Option}
 use mathlib.Core.List.{List, [], _∷_}
 use lib.Dec.{eqb, ltb}
 use lib.ListN.{length}
-use Rattle.meaning.specs.Lists.{Place, firstPlace}
+use Rattle.meaning.specs.Lists.{Place, firstPlace, anyBelow}
 use Rattle.meaning.specs.Tables.{Package, paramsOf, namedBy}
 use Rattle.meaning.specs.Tests.{breaks26, breaks27, breaks28, breaks29, breaks30}
 use Rattle.effect_rules.specs.declared.Site.{Site}
@@ -38,3 +38,11 @@ placesOf rule s = cond (eqb rule 30) (cond (ltb (s .effect .op) 6) 0 (s .called 
 
 unfoldable pub firstEffect : ℕ → Package → Option Place
 firstEffect rule P = firstPlace (length (P .effects)) (secondsOf rule P) (breaksOf rule P)
+
+-- the rule is broken at effect i
+unfoldable pub brokenAt : ℕ → Package → ℕ → Bool
+brokenAt rule P i = anyBelow (secondsOf rule P i) (breaksOf rule P i)
+
+-- some rule is
+unfoldable pub someAt : Package → ℕ → Bool
+someAt P i = brokenAt 26 P i || (brokenAt 27 P i || (brokenAt 28 P i || (brokenAt 29 P i || brokenAt 30 P i)))

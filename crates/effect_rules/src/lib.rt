@@ -1,14 +1,16 @@
 // The rules over effects, 26 to 30: a test for each, and one search for all. What they mean is `meaning`'s Tests.antt.
 ghost use mathlib.Core.Path.{_≡_};
 ghost use Prim.Native.Nat.{_<_, _≤_};
+ghost use lib.ListN.{length};
+ghost use Rattle.meaning.specs.Lists.{anyBelow};
 ghost use Rattle.meaning.specs.Check.{firstFound, effectFindings};
 ghost use Rattle.meaning.specs.Tests.{breaks26, breaks27, breaks28, breaks29, breaks30};
 ghost use Rattle.tables.specs.View.{view};
 ghost use Rattle.tables.specs.Held.{Held};
 ghost use Rattle.found.specs.Found.{foundOf, answerOf};
 ghost use Rattle.homes.specs.Homes.{Small, Rows};
-ghost use Rattle.effect_rules.specs.Sites.{labelBit, Known, Judges, Grants};
-ghost use Rattle.effect_rules.specs.Search.{EffectRule, breaksOf, placesOf, firstEffect};
+ghost use Rattle.effect_rules.specs.Sites.{labelBit, Known, Judges, Judged, Grants};
+ghost use Rattle.effect_rules.specs.Search.{EffectRule, breaksOf, placesOf, firstEffect, brokenAt, someAt};
 use found::Answer;
 use found::Found;
 
@@ -160,6 +162,70 @@ fn places(rule: u8, s: Site) -> usize
     wide(n.k)
 }
 
+// Whether the rule is broken at this effect, at any of its second places.
+fn breaks_here(rule: u8, homes: &[u8; 127], doms: &[u32; 32], s: Site) -> bool
+    requires { ⌜ EffectRule rule ⌝ }
+    requires { ⌜ Known (now homes) (now doms) s ⌝ }
+    ensures { λ r. ⌜ Judged (brokenAt rule) (now (homes .entry)) (now (doms .entry)) s r ⌝ }
+{
+    let k = places(rule, s);
+    for j in 0..k {
+        if breaks(rule, homes, doms, s, j) {
+            return true;
+        }
+    }
+    false
+}
+
+fn breaks_some(homes: &[u8; 127], doms: &[u32; 32], s: Site) -> bool
+    requires { ⌜ Known (now homes) (now doms) s ⌝ }
+    ensures { λ r. ⌜ Judged someAt (now (homes .entry)) (now (doms .entry)) s r ⌝ }
+{
+    if breaks_here(26, homes, doms, s) {
+        return true;
+    }
+    if breaks_here(27, homes, doms, s) {
+        return true;
+    }
+    if breaks_here(28, homes, doms, s) {
+        return true;
+    }
+    if breaks_here(29, homes, doms, s) {
+        return true;
+    }
+    breaks_here(30, homes, doms, s)
+}
+
+// Whether some rule over effects is broken: a package that is accepted is searched once, not once for each rule.
+fn some_broken(t: tables::Tables, homes: &[u8; 127], doms: &[u32; 32]) -> bool
+    requires { ⌜ Held t ⌝ }
+    requires { ⌜ Rows (view t) (now homes) (now doms) ⌝ }
+    ensures { λ r. ⌜ r ≡ anyBelow (length (view t .effects)) (someAt (view t)) ⌝ }
+{
+    let effects = t.effects;
+    let fields = t.fields;
+    let methods = t.methods;
+    let n = effects.n;
+    for i in 0..n {
+        let e = effects.at[i];
+        let m = wide(e.method);
+        let x = wide(e.number);
+        let caller = methods.at[m];
+        let field = fields.at[x];
+        let called = methods.at[x];
+        let s = Site {
+            effect: e,
+            caller: caller,
+            field: field,
+            called: called,
+        };
+        if breaks_some(homes, doms, s) {
+            return true;
+        }
+    }
+    false
+}
+
 // One search for every rule over effects.
 fn first_effect(rule: u8, t: tables::Tables, homes: &[u8; 127], doms: &[u32; 32]) -> Found
     requires { ⌜ EffectRule rule ⌝ }
@@ -202,6 +268,13 @@ pub fn effect_rules(t: tables::Tables, homes: &[u8; 127], doms: &[u32; 32]) -> A
     requires { ⌜ Rows (view t) (now homes) (now doms) ⌝ }
     ensures { λ r. ⌜ r ≡ answerOf (firstFound (effectFindings (view t))) ⌝ }
 {
+    if !some_broken(t, homes, doms) {
+        return Answer {
+            number: 0,
+            first: 0,
+            second: 0,
+        };
+    }
     for i in 0..5 {
         let rule = EFFECT_RULES[i];
         if let Found::At(a, b) = first_effect(rule, t, homes, doms) {

@@ -1,0 +1,132 @@
+-- `effect_rules::some_broken` meets its contract, as `first_effect` does: no effect before i breaks a rule in any package that the tables at
+-- hand are of.
+-- Assumes nothing.
+use Prim.Native.Nat.{ℕ, _≤_, _-_}
+use native.Mathlib.Omega.{arith}
+use mathlib.Core.Path.{_≡_, sym, _∙_, subst}
+use lib.ListN.{length}
+use borrow.Author.Needs.{needs}
+use Rattle.meaning.specs.Tables.{Package}
+use Rattle.tables.specs.View.{view}
+use Rattle.tables.proofs.Views.{held-fields, held-methods, held-effects}
+use Rattle.effect_rules.specs.Sites.{Seen}
+use Rattle.effect_rules.specs.Search.{someAt}
+use Rattle.effect_rules.proofs.Turns.{Searched, siteAt, seen-at}
+use Rattle.effect_rules.proofs.Together.{NoneBefore, none-yet, none-more, none-below, some-below}
+use Rattle.effect_rules.proofs.some_broken.Statement.{statement}
+use Rattle.effect_rules.proofs.some_broken.Tie as tie
+
+abbrev Inv-loop : tie.InvT-loop
+Inv-loop homes doms effects fields methods n i₀ i =
+    (i ≤ n) × ((P : Package) → Searched homes doms effects fields methods P → NoneBefore (someAt P) i)
+
+abbrev μ-loop : tie.MeasureT-loop
+μ-loop homes doms effects fields methods n i₀ i = n - i
+
+-- where the search begins, with the tables of P before it
+abbrev Of : tie.Start Inv-loop μ-loop → Package → Type 0
+Of s P = Searched (s .args .homes .now) (s .args .doms .now) (s .args .t .effects) (s .args .t .fields) (s .args .t .methods) P
+
+own : (s : tie.Start Inv-loop μ-loop) → Of s (view (s .args .t))
+own s =
+    let t = s .args .t in
+    let h = s .pre .0 in
+    record { rows = s .pre .1; of-effects = held-effects t h; of-fields = held-fields t h; of-methods = held-methods t h }
+
+few : (s : tie.Start Inv-loop μ-loop) → s .args .t .effects .n ≤ 1024
+few s = let h = own s .of-effects in omega arith
+
+-- effect i, as any such package has it
+abbrev start : tie.After-called Inv-loop μ-loop → tie.Start Inv-loop μ-loop
+start c = c .before .before .before .before .before .before .before .before .before .before .before
+
+abbrev turn : tie.After-called Inv-loop μ-loop → ℕ
+turn c = c .before .before .before .before .before .before .before .loop .i
+
+seen : (c : tie.After-called Inv-loop μ-loop) (P : Package) → Of (start c) P
+    → Seen (start c .args .homes .now) (start c .args .doms .now)
+    (siteAt (start c .args .t .effects) (start c .args .t .fields) (start c .args .t .methods) (turn c) (c .before .before .before .before .wide .result) (c .before .before .before .wide2 .result)) P (turn c)
+seen c P h =
+    seen-at h (turn c) (c .before .before .before .before .wide .result) (c .before .before .before .wide2 .result) (omega (arith, h .of-effects .count, c .before .before .before .before .before .before .loop-test .taken)) (c .before .before .before .before .wide .ensures .0) (c .before .before .before .wide2 .ensures .0)
+
+loop-holds : tie.Need-loop-holds Inv-loop μ-loop
+loop-holds c = (omega arith, λ P h. none-yet)
+
+mul-e : tie.Need-mul-e Inv-loop μ-loop
+mul-e c = omega (arith, few (c .before .before .before .before .before))
+
+element-copy-out-e : tie.Need-element-copy-out-e Inv-loop μ-loop
+element-copy-out-e c = omega (arith, few (c .before .before .before .before .before))
+
+wide-requires : tie.Need-wide-requires Inv-loop μ-loop
+wide-requires c κs = search needs
+
+wide-requires-2 : tie.Need-wide-requires-2 Inv-loop μ-loop
+wide-requires-2 c κs = search needs
+
+mul-caller : tie.Need-mul-caller Inv-loop μ-loop
+mul-caller c = omega (arith, c .before .wide .ensures)
+
+element-copy-out-caller : tie.Need-element-copy-out-caller Inv-loop μ-loop
+element-copy-out-caller c = c .before .wide .ensures .1
+
+mul-field : tie.Need-mul-field Inv-loop μ-loop
+mul-field c = omega (arith, c .before .wide2 .ensures)
+
+element-copy-out-field : tie.Need-element-copy-out-field Inv-loop μ-loop
+element-copy-out-field c = c .before .wide2 .ensures .1
+
+mul-called : tie.Need-mul-called Inv-loop μ-loop
+mul-called c = omega (arith, c .before .before .wide2 .ensures)
+
+element-copy-out-called : tie.Need-element-copy-out-called Inv-loop μ-loop
+element-copy-out-called c = c .before .before .wide2 .ensures .1
+
+breaks-some-requires : tie.Need-breaks-some-requires Inv-loop μ-loop
+breaks-some-requires c κs = (view (start c .args .t), turn c, seen c (view (start c .args .t)) (own (start c)))
+
+returns : tie.Need-returns Inv-loop μ-loop
+returns c =
+    let s = c .before .before .before .before .before .before .before .before .before .before .before .before .before in
+    let a = seen (c .before .before) (view (s .args .t)) (own s) in
+    sym (some-below (someAt (view (s .args .t))) (c .before .before .before .before .before .before .before .before .before .loop .i) (length (view (s .args .t) .effects)) (a .declared) (sym (c .before .breaks-some .ensures (view (s .args .t)) (c .before .before .before .before .before .before .before .before .before .loop .i) a) ∙ c .if1 .taken))
+
+add-i : tie.Need-add-i Inv-loop μ-loop
+add-i c = omega (arith, few (c .before .before .before .before .before .before .before .before .before .before .before .before .before))
+
+loop-less : tie.Need-loop-less Inv-loop μ-loop
+loop-less c = omega arith
+
+loop-again : tie.Need-loop-again Inv-loop μ-loop
+loop-again c = (omega arith, λ P h. none-more (c .before .before .before .before .before .before .before .before .before .loop .inv .1 P h) (sym (c .before .breaks-some .ensures P (c .before .before .before .before .before .before .before .before .before .loop .i) (seen (c .before .before) P h)) ∙ c .if1 .left))
+
+returns-2 : tie.Need-returns-2 Inv-loop μ-loop
+returns-2 c =
+    let s = c .before .before .before .before .before in
+    let h = own s in
+    let q : c .before .loop .i ≡ length (view (s .args .t) .effects) = omega (arith, h .of-effects .count) in
+    sym (none-below (subst (NoneBefore (someAt (view (s .args .t)))) q (c .before .loop .inv .1 (view (s .args .t)) h)))
+
+pub some-broken-spec : {M : Type 1} → statement M
+some-broken-spec =
+    tie.close
+    (tie.spec
+    Inv-loop
+    μ-loop
+    loop-holds
+    mul-e
+    element-copy-out-e
+    wide-requires
+    wide-requires-2
+    mul-caller
+    element-copy-out-caller
+    mul-field
+    element-copy-out-field
+    mul-called
+    element-copy-out-called
+    breaks-some-requires
+    returns
+    add-i
+    loop-less
+    loop-again
+    returns-2)

@@ -207,14 +207,14 @@ fn some_broken(t: tables::Tables, homes: &[u8; 127], doms: &[u32; 32]) -> bool
     let methods = t.methods;
     let n = effects.n;
     for i in 0..n {
-        let e = effects.at[i];
-        let m = wide(e.method);
-        let x = wide(e.number);
+        let effect = effects.at[i];
+        let m = wide(effect.method);
+        let x = wide(effect.number);
         let caller = methods.at[m];
         let field = fields.at[x];
         let called = methods.at[x];
         let s = Site {
-            effect: e,
+            effect: effect,
             caller: caller,
             field: field,
             called: called,

@@ -52,11 +52,11 @@ seen c P h =
 loop-holds : tie.Need-loop-holds Inv-loop μ-loop
 loop-holds c = (omega arith, λ P h. none-yet)
 
-mul-e : tie.Need-mul-e Inv-loop μ-loop
-mul-e c = omega (arith, few (c .before .before .before .before .before))
+mul-effect : tie.Need-mul-effect Inv-loop μ-loop
+mul-effect c = omega (arith, few (c .before .before .before .before .before))
 
-element-copy-out-e : tie.Need-element-copy-out-e Inv-loop μ-loop
-element-copy-out-e c = omega (arith, few (c .before .before .before .before .before))
+element-copy-out-effect : tie.Need-element-copy-out-effect Inv-loop μ-loop
+element-copy-out-effect c = omega (arith, few (c .before .before .before .before .before))
 
 wide-requires : tie.Need-wide-requires Inv-loop μ-loop
 wide-requires c κs = search needs
@@ -114,8 +114,8 @@ some-broken-spec =
     Inv-loop
     μ-loop
     loop-holds
-    mul-e
-    element-copy-out-e
+    mul-effect
+    element-copy-out-effect
     wide-requires
     wide-requires-2
     mul-caller

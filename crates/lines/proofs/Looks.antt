@@ -6,7 +6,7 @@ use mathlib.Core.Path.{_≡_, refl, sym, ap, _∙_}
 use mathlib.Core.Bool.{Bool, true, false, cond, false≢true, true≢false}
 use mathlib.Core.Option.{Option, none, some, Option·none-ne-some}
 use mathlib.Core.List.{List}
-use lib.Dec.{eqb}
+use lib.Dec.{eqb, lit<}
 use lib.ListN.{length, getD}
 use borrow.Author.Tests.{eq-eqb, ne-eqb, lt-leb, eqb-true}
 use Rattle.meaning.specs.Text.{frameAt, byte}
@@ -14,7 +14,8 @@ use Rattle.meaning.specs.Kinds.{rowOf, fits}
 use Rattle.meaning.proofs.Reading.{framed}
 use Rattle.text.specs.declared.Frame.{Frame}
 use Rattle.text.specs.declared.Cut.{Cut}
-use Rattle.text.specs.Fits.{fitsFrame}
+use Rattle.text.specs.declared.kinds.Kind.{Kind}
+use Rattle.text.specs.Fits.{kindIn, fitsFrame}
 use Rattle.text.specs.Scan.{noCut, cutBy, cutAt}
 use Rattle.text.proofs.Packed.{first-at}
 use Rattle.text.proofs.Fitting.{fits-packed}
@@ -28,6 +29,10 @@ cut-byte t i h = sym (ap (λ (f : Frame). getD (f .b) i 0) (t .frame) ∙ first-
 
 pub cut-fits : {s : List ℕ} {place : ℕ} {r : Cut} (t : Taken s place r) → fitsFrame (r .frame) ≡ fits (t .f)
 cut-fits t = ap fitsFrame (t .frame) ∙ fits-packed (t .f)
+
+-- the section that the code reads off the frame's first byte
+pub section-is : {s : List ℕ} {place : ℕ} {r : Cut} (t : Taken s place r) {k : Kind} → k ≡ kindIn (rowOf (getD (r .frame .b) 0 0)) → rowOf (byte (t .f) 0) .section ≡ k .section
+section-is t e = ap (λ (b : ℕ). rowOf b .section) (cut-byte t 0 (lit< tt)) ∙ sym (ap (λ (k : Kind). k .section) e)
 
 -- ---- at a cursor
 

@@ -3,7 +3,9 @@ use text::Cut;
 use text::Frame;
 ghost use mathlib.Core.Path.{_≡_};
 ghost use Prim.Native.Nat.{_≤_, _<_};
+ghost use Rattle.meaning.specs.Kinds.{rowOf};
 ghost use Rattle.text.specs.Scan.{noCut};
+ghost use Rattle.text.specs.Values.{digitTable};
 ghost use Rattle.lines.specs.Cursors.{Within, movedTo, lineOf, behindEnd, lastOf};
 
 // Where the next line begins, how many lines are read, and the number that refuses the next one, or 0.
@@ -56,6 +58,33 @@ pub fn line_of(s: &[u8], c: Cursor, section: u8) -> Cut
     }
     let f = cut.frame;
     let kind = text::kind_of(f.b[0]);
+    if kind.section != section {
+        return no_line(at);
+    }
+    cut
+}
+
+// The same by the values of the digits; of a section that has the number of a kind, which most of its lines are of.
+pub fn line_by(digits: &[u8; 256], s: &[u8], c: Cursor, section: u8) -> Cut
+    requires { ⌜ now digits ≡ digitTable ⌝ }
+    requires { ⌜ rowOf section .section ≡ section ⌝ }
+    ensures { λ r. ⌜ r ≡ lineOf (now (s .entry)) c section ⌝ }
+{
+    let at = c.at;
+    if c.no != 0 {
+        return no_line(at);
+    }
+    let cut = text::scan_by(digits, s, at);
+    let ok = cut.ok;
+    if !ok {
+        return cut;
+    }
+    let f = cut.frame;
+    let b = f.b[0];
+    if b == section {
+        return cut;
+    }
+    let kind = text::kind_of(b);
     if kind.section != section {
         return no_line(at);
     }

@@ -1,6 +1,8 @@
 // The section of the lines 03 dd k s..
 use lines::Cursor;
 use tables::Classes;
+ghost use mathlib.Core.Path.{_≡_};
+ghost use Rattle.text.specs.Values.{digitTable};
 ghost use Rattle.tables.specs.Pack.{packClasses};
 ghost use Rattle.lines.specs.Cursors.{Within};
 ghost use Rattle.package.specs.Sections.{Section, withClasses, HasDomains};
@@ -10,14 +12,15 @@ pub struct ClassesRead {
     pub classes: Classes,
 }
 
-pub(crate) fn read_classes(s: &[u8], from: Cursor, nd: usize) -> ClassesRead
+pub(crate) fn read_classes(digits: &[u8; 256], s: &[u8], from: Cursor, nd: usize) -> ClassesRead
     requires { ⌜ Within (now s) from ⌝ }
+    requires { ⌜ now digits ≡ digitTable ⌝ }
     ensures { λ r. ⌜ Section packClasses withClasses (HasDomains nd) 3 (now (s .entry)) from (r .next) (r .classes) ⌝ }
 {
     let mut x = frames::classes::no_classes();
     let mut next = from;
     loop {
-        let cut = lines::line_of(s, next, 3);
+        let cut = lines::line_by(digits, s, next, 3);
         let here = cut.ok;
         if !here {
             return ClassesRead { next, classes: x };

@@ -4,6 +4,8 @@ use lines::Cursor;
 use tables::Effects;
 use tables::Fields;
 use tables::Methods;
+ghost use mathlib.Core.Path.{_≡_};
+ghost use Rattle.text.specs.Values.{digitTable};
 ghost use Rattle.tables.specs.Pack.{packEffects};
 ghost use Rattle.lines.specs.Cursors.{Within};
 ghost use Rattle.package.specs.Sections.{Section, withEffects, HasDeclared};
@@ -14,6 +16,7 @@ pub struct EffectsRead {
 }
 
 pub(crate) fn read_effects(
+    digits: &[u8; 256],
     s: &[u8],
     from: Cursor,
     nc: usize,
@@ -21,12 +24,13 @@ pub(crate) fn read_effects(
     methods: Methods,
 ) -> EffectsRead
     requires { ⌜ Within (now s) from ⌝ }
+    requires { ⌜ now digits ≡ digitTable ⌝ }
     ensures { λ r. ⌜ Section packEffects withEffects (HasDeclared nc fields methods) 6 (now (s .entry)) from (r .next) (r .effects) ⌝ }
 {
     let mut x = frames::effects::no_effects();
     let mut next = from;
     loop {
-        let cut = lines::line_of(s, next, 6);
+        let cut = lines::line_by(digits, s, next, 6);
         let here = cut.ok;
         if !here {
             return EffectsRead { next, effects: x };

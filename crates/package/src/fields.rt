@@ -1,6 +1,8 @@
 // The section of the lines 04 cc tt ss.
 use lines::Cursor;
 use tables::Fields;
+ghost use mathlib.Core.Path.{_≡_};
+ghost use Rattle.text.specs.Values.{digitTable};
 ghost use Rattle.tables.specs.Pack.{packFields};
 ghost use Rattle.lines.specs.Cursors.{Within};
 ghost use Rattle.package.specs.Sections.{Section, withFields, HasClasses};
@@ -10,14 +12,15 @@ pub struct FieldsRead {
     pub fields: Fields,
 }
 
-pub(crate) fn read_fields(s: &[u8], from: Cursor, nc: usize) -> FieldsRead
+pub(crate) fn read_fields(digits: &[u8; 256], s: &[u8], from: Cursor, nc: usize) -> FieldsRead
     requires { ⌜ Within (now s) from ⌝ }
+    requires { ⌜ now digits ≡ digitTable ⌝ }
     ensures { λ r. ⌜ Section packFields withFields (HasClasses nc) 4 (now (s .entry)) from (r .next) (r .fields) ⌝ }
 {
     let mut x = frames::fields::no_fields();
     let mut next = from;
     loop {
-        let cut = lines::line_of(s, next, 4);
+        let cut = lines::line_by(digits, s, next, 4);
         let here = cut.ok;
         if !here {
             return FieldsRead { next, fields: x };

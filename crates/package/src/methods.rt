@@ -1,6 +1,8 @@
 // The section of the lines 05 cc ll ss hh hh rr k p..
 use lines::Cursor;
 use tables::Methods;
+ghost use mathlib.Core.Path.{_≡_};
+ghost use Rattle.text.specs.Values.{digitTable};
 ghost use Rattle.tables.specs.Pack.{packMethods};
 ghost use Rattle.lines.specs.Cursors.{Within};
 ghost use Rattle.package.specs.Sections.{Section, withMethods, HasBoth};
@@ -10,14 +12,21 @@ pub struct MethodsRead {
     pub methods: Methods,
 }
 
-pub(crate) fn read_methods(s: &[u8], from: Cursor, nd: usize, nc: usize) -> MethodsRead
+pub(crate) fn read_methods(
+    digits: &[u8; 256],
+    s: &[u8],
+    from: Cursor,
+    nd: usize,
+    nc: usize,
+) -> MethodsRead
     requires { ⌜ Within (now s) from ⌝ }
+    requires { ⌜ now digits ≡ digitTable ⌝ }
     ensures { λ r. ⌜ Section packMethods withMethods (HasBoth nd nc) 5 (now (s .entry)) from (r .next) (r .methods) ⌝ }
 {
     let mut x = frames::methods::no_methods();
     let mut next = from;
     loop {
-        let cut = lines::line_of(s, next, 5);
+        let cut = lines::line_by(digits, s, next, 5);
         let here = cut.ok;
         if !here {
             return MethodsRead { next, methods: x };

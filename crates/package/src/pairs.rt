@@ -1,6 +1,8 @@
 // The section of the lines 02 EE DD.
 use lines::Cursor;
 use tables::Pairs;
+ghost use mathlib.Core.Path.{_≡_};
+ghost use Rattle.text.specs.Values.{digitTable};
 ghost use Rattle.tables.specs.Pack.{packPairs};
 ghost use Rattle.lines.specs.Cursors.{Within};
 ghost use Rattle.package.specs.Sections.{Section, withPairs, HasDomains};
@@ -10,14 +12,15 @@ pub struct PairsRead {
     pub pairs: Pairs,
 }
 
-pub(crate) fn read_pairs(s: &[u8], from: Cursor, nd: usize) -> PairsRead
+pub(crate) fn read_pairs(digits: &[u8; 256], s: &[u8], from: Cursor, nd: usize) -> PairsRead
     requires { ⌜ Within (now s) from ⌝ }
+    requires { ⌜ now digits ≡ digitTable ⌝ }
     ensures { λ r. ⌜ Section packPairs withPairs (HasDomains nd) 2 (now (s .entry)) from (r .next) (r .pairs) ⌝ }
 {
     let mut x = frames::pairs::no_pairs();
     let mut next = from;
     loop {
-        let cut = lines::line_of(s, next, 2);
+        let cut = lines::line_by(digits, s, next, 2);
         let here = cut.ok;
         if !here {
             return PairsRead { next, pairs: x };

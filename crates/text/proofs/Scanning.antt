@@ -1,6 +1,7 @@
 -- The scanner's loop: what it has in hand after some turns, and its answers.
 -- Assumes nothing.
 use Prim.Native.Nat.{ℕ, _+_, _≤_, _<_}
+use native.Mathlib.Decide.{ℕ-discrete, decLt}
 use native.Mathlib.Omega.{arith}
 use mathlib.Core.Path.{_≡_, refl, sym, ap, _∙_}
 use mathlib.Core.Logic.{_⊎_, inl, inr}
@@ -8,10 +9,12 @@ use mathlib.Core.Bool.{true}
 use mathlib.Core.Option.{none, some}
 use mathlib.Core.List.{List, [], _∷_, _++_}
 use lib.ListN.{length, getD, set, length-append}
+use borrow.Author.Tests.{lt-ltb, le-ltb, eq-eqb, ne-eqb}
 use Rattle.meaning.specs.Text.{isDigit, notEmpty, frameAt, behind}
-use Rattle.meaning.proofs.Reading.{spelt, Going, go-start, go-on, go-end}
+use Rattle.meaning.proofs.Reading.{spelt, Going, go-start, go-on, go-end, go-high, go-low, go-short, go-none}
 use Rattle.text.specs.declared.Cut.{Cut}
-use Rattle.text.specs.Scan.{firstBytes, noCut, cutBy, cutAt}
+use Rattle.text.specs.Scan.{firstBytes, noCut, cutBy, cutAt, closedAt}
+use Rattle.text.proofs.Values.{Lacks, short, no-high, no-low}
 use Rattle.text.proofs.Packed.{first-more, first-full}
 
 -- the characters from the place `at` up to i spell the bytes f, of which b and n are the first ones and the count
@@ -61,3 +64,23 @@ module _ {s : List ℕ} {at : ℕ} {b : List ℕ} {n i : ℕ} (g : Scanning s at
       on : (f : List ℕ) → n ≡ length f → notEmpty (some f) ≡ none
       on [] q = refl
       on (x ∷ f) q = absurd (omega arith)
+
+  -- the digits end at i, where no two more stand
+  pub cut-closed : Lacks s i → closedAt s at i (record { b = b; n = n }) ≡ cutAt s at
+  unfolding closedAt
+  cut-closed w = on (decLt i (length s)) (ℕ-discrete (getD s i 0) 10) (ℕ-discrete n 0)
+    where
+      none-more : i < length s → (getD s i 0 ≡ 10 → ⊥) → Lacks s i → frameAt s at ≡ none
+      none-more h f (short l) = go-short (g .going) h l f
+      none-more h f (no-high e) = go-high (g .going) h f e
+      none-more h f (no-low l e) = go-low (g .going) l f e
+
+      on : Dec (i < length s) → Dec (getD s i 0 ≡ 10) → Dec (n ≡ 0) → closedAt s at i (record { b = b; n = n }) ≡ cutAt s at
+      on (no k) _ _ = let l : length s ≤ i = omega arith in rw (le-ltb i (length s) l) (cut-bad refl (go-none (g .going) l))
+      on (yes h) (no f) _ = rw (lt-ltb i (length s) h, ne-eqb (getD s i 0) 10 f) (cut-bad refl (none-more h f w))
+      on (yes h) (yes e) (yes z) = rw (lt-ltb i (length s) h, eq-eqb (getD s i 0) 10 e, eq-eqb n 0 z) (cut-bad refl (no-digits h e z))
+      on (yes h) (yes e) (no f) = rw (lt-ltb i (length s) h, eq-eqb (getD s i 0) 10 e, ne-eqb n 0 f) (cut-got h e f)
+
+-- no line begins behind the text
+pub cut-none : (s : List ℕ) (at : ℕ) {r : Cut} → r ≡ noCut at → length s ≤ at → r ≡ cutAt s at
+cut-none s at e l = cut-bad (scan-start {s = s} {at = at}) e (go-none (go-start {s = s} {at = at}) l)

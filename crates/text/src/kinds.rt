@@ -13,6 +13,41 @@ pub(crate) const NONE: Kind = Kind {
     counter: 0,
 };
 
+// 02 EE DD
+pub(crate) const PAIR: Kind = Kind {
+    section: 0x02,
+    size: 3,
+    counter: 0,
+};
+
+// 03 dd k s..
+pub(crate) const CLASS: Kind = Kind {
+    section: 0x03,
+    size: 3,
+    counter: 2,
+};
+
+// 04 cc tt ss
+pub(crate) const FIELD: Kind = Kind {
+    section: 0x04,
+    size: 4,
+    counter: 0,
+};
+
+// 05 cc ll ss hh hh rr k p..
+pub(crate) const METHOD: Kind = Kind {
+    section: 0x05,
+    size: 8,
+    counter: 7,
+};
+
+// 06 mm op xx
+pub(crate) const EFFECT: Kind = Kind {
+    section: 0x06,
+    size: 4,
+    counter: 0,
+};
+
 // At each kind's own number.
 pub(crate) const KINDS: [Kind; 48] = [
     NONE,
@@ -22,36 +57,11 @@ pub(crate) const KINDS: [Kind; 48] = [
         size: 3,
         counter: 0,
     },
-    // 02 EE DD
-    Kind {
-        section: 0x02,
-        size: 3,
-        counter: 0,
-    },
-    // 03 dd k s..
-    Kind {
-        section: 0x03,
-        size: 3,
-        counter: 2,
-    },
-    // 04 cc tt ss
-    Kind {
-        section: 0x04,
-        size: 4,
-        counter: 0,
-    },
-    // 05 cc ll ss hh hh rr k p..
-    Kind {
-        section: 0x05,
-        size: 8,
-        counter: 7,
-    },
-    // 06 mm op xx
-    Kind {
-        section: 0x06,
-        size: 4,
-        counter: 0,
-    },
+    PAIR,
+    CLASS,
+    FIELD,
+    METHOD,
+    EFFECT,
     // 07
     Kind {
         section: 0x07,

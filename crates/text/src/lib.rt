@@ -1,15 +1,20 @@
 // Lines and frames of both texts: a line cut off a text, the kinds of frames, and bytes as two digits.
 ghost use mathlib.Core.Path.{_≡_};
-ghost use Prim.Native.Nat.{_+_, _/_, _%_, _<_};
+ghost use Prim.Native.Nat.{_+_, _/_, _%_, _≤_, _<_};
 ghost use lib.ListN.{length, set};
-ghost use mathlib.Core.Bool.{true};
-ghost use Rattle.meaning.specs.Text.{isDigit, digit, hexDigit};
+ghost use Rattle.meaning.specs.Text.{hexDigit};
 ghost use Rattle.meaning.specs.Kinds.{rowOf, follows};
 ghost use Rattle.text.specs.Fits.{kindIn, fitsFrame};
-ghost use Rattle.text.specs.Scan.{noCut, cutAt};
+ghost use Rattle.text.specs.Scan.{noCut, cutAt, closedAt};
+ghost use Rattle.text.specs.Values.{digitTable, byteAt};
+use crate::kinds::CLASS;
+use crate::kinds::EFFECT;
+use crate::kinds::FIELD;
 use crate::kinds::KINDS;
 use crate::kinds::Kind;
+use crate::kinds::METHOD;
 use crate::kinds::NONE;
+use crate::kinds::PAIR;
 
 pub mod kinds;
 
@@ -43,12 +48,26 @@ pub fn kind_of(b: u8) -> Kind
     KINDS[i]
 }
 
+// The same, for the kinds of most lines of a package without the table: it is laid out anew wherever it is looked at.
+fn row_of(b: u8) -> Kind
+    ensures { λ r. ⌜ r ≡ kindIn (rowOf b) ⌝ }
+{
+    match b {
+        2 => PAIR,
+        3 => CLASS,
+        4 => FIELD,
+        5 => METHOD,
+        6 => EFFECT,
+        _ => kind_of(b),
+    }
+}
+
 // Whether a frame has the length that its kind and its count byte ask for.
 pub fn fits(f: Frame) -> bool
     ensures { λ r. ⌜ r ≡ fitsFrame f ⌝ }
 {
     let n = f.n;
-    let k = kind_of(f.b[0]);
+    let k = row_of(f.b[0]);
     let size = wide(k.size);
     let at = wide(k.counter);
     if at == 0 {
@@ -73,26 +92,15 @@ pub fn follows(o: u8, e: u8, b: u8, s: u8) -> bool
     b < e
 }
 
-fn is_digit(c: u8) -> bool
-    ensures { λ r. ⌜ r ≡ isDigit c ⌝ }
+// The value of each character as a digit, 16 for a character that is none. It is made once for a text.
+pub fn digits() -> [u8; 256]
+    ensures { λ r. ⌜ r ≡ digitTable ⌝ }
 {
-    if c <= 57 {
-        return 48 <= c;
+    let mut values = [16u8; 256];
+    for v in 0..16 {
+        values[wide(hex_digit(v))] = v;
     }
-    if c <= 70 {
-        return 65 <= c;
-    }
-    false
-}
-
-fn digit(c: u8) -> u8
-    requires { ⌜ isDigit c ≡ true ⌝ }
-    ensures { λ r. ⌜ (r ≡ digit c) × (r < 16) ⌝ }
-{
-    if c <= 57 {
-        return c - 48;
-    }
-    c - 55
+    values
 }
 
 fn no_cut(at: usize) -> Cut
@@ -105,43 +113,76 @@ fn no_cut(at: usize) -> Cut
     }
 }
 
-// The line that begins at a place.
-pub fn scan(s: &[u8], at: usize) -> Cut
+// The byte that two digits at a place spell; 256 where there are no two digits.
+fn byte_at(digits: &[u8; 256], s: &[u8], i: usize) -> u16
+    requires { ⌜ now digits ≡ digitTable ⌝ }
+    requires { ⌜ i ≤ length (now s) ⌝ }
+    ensures { λ r. ⌜ r ≡ byteAt (now (s .entry)) i ⌝ }
+{
+    if s.len() <= i + 1 {
+        return 256;
+    }
+    let high = digits[wide(s[i])];
+    let low = digits[wide(s[i + 1])];
+    if 15 < high {
+        return 256;
+    }
+    if 15 < low {
+        return 256;
+    }
+    (high * 16 + low) as u16
+}
+
+// A line whose digits end at i: an LF must stand there, and a byte before it.
+fn closed(s: &[u8], at: usize, i: usize, frame: Frame) -> Cut
+    ensures { λ r. ⌜ r ≡ closedAt (now (s .entry)) at i frame ⌝ }
+{
+    if s.len() <= i {
+        return no_cut(at);
+    }
+    if s[i] != 10 {
+        return no_cut(at);
+    }
+    if frame.n == 0 {
+        return no_cut(at);
+    }
+    Cut {
+        ok: true,
+        frame,
+        next: i + 1,
+    }
+}
+
+// The line that begins at a place, by the values of the digits.
+pub fn scan_by(digits: &[u8; 256], s: &[u8], at: usize) -> Cut
+    requires { ⌜ now digits ≡ digitTable ⌝ }
     ensures { λ r. ⌜ r ≡ cutAt (now (s .entry)) at ⌝ }
 {
+    if s.len() <= at {
+        return no_cut(at);
+    }
     let mut b = [0u8; 16];
     let mut n: usize = 0;
     let mut i = at;
-    while i < s.len() {
-        let c = s[i];
-        if c == 10 {
-            if n == 0 {
-                return no_cut(at);
-            }
-            return Cut {
-                ok: true,
-                frame: Frame { b, n },
-                next: i + 1,
-            };
+    loop {
+        let v = byte_at(digits, s, i);
+        if 255 < v {
+            return closed(s, at, i, Frame { b, n });
         }
-        if s.len() <= i + 1 {
-            return no_cut(at);
-        }
-        let d = s[i + 1];
-        if !is_digit(c) {
-            return no_cut(at);
-        }
-        if !is_digit(d) {
-            return no_cut(at);
-        }
-        let v = digit(c) * 16 + digit(d);
         if n < 16 {
-            b[n] = v;
+            b[n] = v as u8;
         }
         n += 1;
         i += 2;
     }
-    no_cut(at)
+}
+
+// The same for a single line.
+pub fn scan(s: &[u8], at: usize) -> Cut
+    ensures { λ r. ⌜ r ≡ cutAt (now (s .entry)) at ⌝ }
+{
+    let values = digits();
+    scan_by(&values, s, at)
 }
 
 // The digit of a number below 16.

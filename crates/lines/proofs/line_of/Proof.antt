@@ -1,25 +1,12 @@
 -- `line_of` gives the line at the cursor as `scan` does, if its kind is of the section and nothing is refused there.
 -- Assumes nothing.
-use Prim.Native.Nat.{ℕ}
-use mathlib.Core.Path.{_≡_, sym, ap, _∙_}
-use mathlib.Core.List.{List}
-use lib.Dec.{lit<}
-use lib.ListN.{getD}
+use mathlib.Core.Path.{sym, _∙_}
 use borrow.Author.Tests.{not-true, not-false}
-use Rattle.meaning.specs.Text.{byte}
-use Rattle.meaning.specs.Kinds.{rowOf}
-use Rattle.text.specs.declared.Cut.{Cut}
-use Rattle.text.specs.declared.kinds.Kind.{Kind}
-use Rattle.text.specs.Fits.{kindIn}
-use Rattle.text.proofs.Cuts.{Taken, cut-taken, cut-refused}
-use Rattle.lines.proofs.Looks.{cut-byte, next-refused, next-bad, next-other, next-here, line-there, line-none}
+use Rattle.text.proofs.Cuts.{cut-taken, cut-refused}
+use Rattle.lines.proofs.Looks.{section-is, next-refused, next-bad, next-other, next-here, line-there, line-none}
 use borrow.Author.Needs.{needs}
 use Rattle.lines.proofs.line_of.Statement.{statement}
 use Rattle.lines.proofs.line_of.Tie as tie
-
--- the section that the code reads off the frame's first byte
-section-is : {s : List ℕ} {place : ℕ} {r : Cut} (t : Taken s place r) {k : Kind} → k ≡ kindIn (rowOf (getD (r .frame .b) 0 0)) → rowOf (byte (t .f) 0) .section ≡ k .section
-section-is t e = ap (λ (b : ℕ). rowOf b .section) (cut-byte t 0 (lit< tt)) ∙ sym (ap (λ (k : Kind). k .section) e)
 
 no-line-requires : tie.Need-no-line-requires
 no-line-requires c κs = search needs

@@ -5,11 +5,11 @@ use Rattle.text.proofs.Fitting.{counter-below, fits-fixed, fits-counted
 use Rattle.text.proofs.fits.Statement.{statement}
 use Rattle.text.proofs.fits.Tie as tie
 
-element-copy-out-kind-of : tie.Need-element-copy-out-kind-of
-element-copy-out-kind-of c = search needs
+element-copy-out-row-of : tie.Need-element-copy-out-row-of
+element-copy-out-row-of c = search needs
 
-kind-of-requires : tie.Need-kind-of-requires
-kind-of-requires c κs = search needs
+row-of-requires : tie.Need-row-of-requires
+row-of-requires c κs = search needs
 
 wide-requires : tie.Need-wide-requires
 wide-requires c κs = search needs
@@ -19,10 +19,10 @@ wide-requires-2 c κs = search needs
 
 returns : tie.Need-returns
 returns c =
-    fits-fixed (c .before .before .before .before .before .args .t1) (c .before .before .before .kind-of .ensures) (c .before .before .wide .ensures .0) (c .before .wide2 .ensures .0) (c .if1 .taken)
+    fits-fixed (c .before .before .before .before .before .args .t1) (c .before .before .before .row-of .ensures) (c .before .before .wide .ensures .0) (c .before .wide2 .ensures .0) (c .if1 .taken)
 
 element-copy-out-wide : tie.Need-element-copy-out-wide
-element-copy-out-wide c = counter-below (c .before .before .before .before .before .args .t1) (c .before .before .before .kind-of .ensures) (c .before .before .wide .ensures .0) (c .before .wide2 .ensures .0)
+element-copy-out-wide c = counter-below (c .before .before .before .before .before .args .t1) (c .before .before .before .row-of .ensures) (c .before .before .wide .ensures .0) (c .before .wide2 .ensures .0)
 
 wide-requires-3 : tie.Need-wide-requires-3
 wide-requires-3 c κs = search needs
@@ -32,14 +32,14 @@ add-result c = search needs
 
 returns-2 : tie.Need-returns-2
 returns-2 c =
-    fits-counted (c .before .before .before .before .before .before .before .args .t1) (c .before .before .before .before .before .kind-of .ensures) (c .before .before .before .before .wide .ensures .0) (c .before .before .before .wide2 .ensures .0) (c .wide3 .result) (c .before .before .if1 .left) (c .wide3 .ensures .0)
+    fits-counted (c .before .before .before .before .before .before .before .args .t1) (c .before .before .before .before .before .row-of .ensures) (c .before .before .before .before .wide .ensures .0) (c .before .before .before .wide2 .ensures .0) (c .wide3 .result) (c .before .before .if1 .left) (c .wide3 .ensures .0)
 
 pub fits-spec : {M : Type 1} → statement M
 fits-spec =
     tie.close
     (tie.spec
-    element-copy-out-kind-of
-    kind-of-requires
+    element-copy-out-row-of
+    row-of-requires
     wide-requires
     wide-requires-2
     returns

@@ -6,3 +6,4 @@ pub mod Visiting
 pub mod Stepwise
 pub mod Judged
 pub mod Together
+pub mod Clearing

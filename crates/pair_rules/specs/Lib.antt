@@ -3,3 +3,4 @@ pub mod Visits
 pub mod Rows
 pub mod Judged
 pub mod Stepwise
+pub mod Clear

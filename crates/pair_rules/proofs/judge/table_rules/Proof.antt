@@ -12,6 +12,8 @@ use lib.ListN.{getD}
 use Rattle.pair_rules.proofs.Judged.{few, table-findings, found-places}
 use Rattle.found.proofs.Named.{Left, left-all, left-more, left-hit, left-done}
 use Rattle.homes.proofs.Laws.{small}
+use Rattle.pair_rules.proofs.Stepwise.{few-classes, class-steps}
+use Rattle.pair_rules.proofs.Clearing.{few-domains, found-nothing}
 use Rattle.pair_rules.proofs.Together.{search-some, none-broken}
 use borrow.Author.Needs.{needs}
 use Rattle.pair_rules.proofs.judge.table_rules.Statement.{statement}
@@ -33,31 +35,45 @@ some-broken-requires : tie.Need-some-broken-requires Inv-loop μ-loop
 some-broken-requires c κs =
     (small (c .before .before .before .before .pre .1 .rows), search-some _ (c .before .before .before .before .pre .0) (c .before .before .before .before .pre .1) _ _ (record { keys = c .before .before .slots .result; slots = c .before .before .slots .ensures; visited = c .visits-of .ensures }))
 
+all-clear-requires : tie.Need-all-clear-requires Inv-loop μ-loop
+all-clear-requires c κs =
+    let s = c .before .before .before .before .before .before in
+    (few-domains (s .args .t) (s .pre .0), (few-classes _ (s .pre .0) (s .pre .1), (small (s .pre .1 .rows), class-steps _ (s .pre .0) (s .pre .1))))
+
+unbroken-requires : tie.Need-unbroken-requires Inv-loop μ-loop
+unbroken-requires c κs = search needs
+
+returns : tie.Need-returns Inv-loop μ-loop
+returns c =
+    let s = c .before .before .before .before .before .before .before .before .before in
+    c .unbroken .ensures
+    ∙ ap answerOf (sym (found-nothing (s .args .t) (s .pre .0) (s .pre .1) (none-broken _ (s .pre .0) (s .pre .1) (c .before .before .before .before .some-broken .ensures)) (sym (c .before .before .all-clear .ensures) ∙ c .before .if1 .taken)))
+
 loop-holds : tie.Need-loop-holds Inv-loop μ-loop
 loop-holds c = (
   omega arith,
   left-all _ _,
-  record { keys = c .before .before .before .slots .result; slots = c .before .before .before .slots .ensures; visited = c .before .visits-of .ensures },
-  none-broken _ (c .before .before .before .before .before .pre .0) (c .before .before .before .before .before .pre .1) (c .some-broken .ensures),
+  record { keys = c .before .before .before .before .before .before .slots .result; slots = c .before .before .before .before .before .before .slots .ensures; visited = c .before .before .before .before .visits-of .ensures },
+  none-broken _ (c .before .before .before .before .before .before .before .before .pre .0) (c .before .before .before .before .before .before .before .before .pre .1) (c .before .before .before .some-broken .ensures),
 )
 
 array-read-rule : tie.Need-array-read-rule Inv-loop μ-loop
 array-read-rule c = omega arith
 
 find-requires : tie.Need-find-requires Inv-loop μ-loop
-find-requires c κs = (c .before .before .before .before .before .before .before .pre .0, (c .before .before .before .before .before .before .before .pre .1, (c .before .loop .inv .2, c .before .loop .inv .3)))
+find-requires c κs = (c .before .before .before .before .before .before .before .before .before .before .pre .0, (c .before .before .before .before .before .before .before .before .before .before .pre .1, (c .before .loop .inv .2, c .before .loop .inv .3)))
 
 enum-known-a : tie.Need-enum-known-a Inv-loop μ-loop
 enum-known-a c = search needs
 
-cast-t24 : tie.Need-cast-t24 Inv-loop μ-loop
-cast-t24 c = record { fits = omega (arith, found-places (view (c .before .before .before .before .before .before .before .before .before .before .before .args .t)) (getD tableNumbers (c .before .before .before .before .before .loop .i) 0) _ _ (sym (c .before .before .before .find .ensures) ∙ c .before .a .given .1) .0, few (c .before .before .before .before .before .before .before .before .before .before .before .args .t) (c .before .before .before .before .before .before .before .before .before .before .before .pre .0) (c .before .before .before .before .before .before .before .before .before .before .before .pre .1) (getD tableNumbers (c .before .before .before .before .before .loop .i) 0)) }
+cast-t26 : tie.Need-cast-t26 Inv-loop μ-loop
+cast-t26 c = record { fits = omega (arith, found-places (view (c .before .before .before .before .before .before .before .before .before .before .before .before .before .before .args .t)) (getD tableNumbers (c .before .before .before .before .before .loop .i) 0) _ _ (sym (c .before .before .before .find .ensures) ∙ c .before .a .given .1) .0, few (c .before .before .before .before .before .before .before .before .before .before .before .before .before .before .args .t) (c .before .before .before .before .before .before .before .before .before .before .before .before .before .before .pre .0) (c .before .before .before .before .before .before .before .before .before .before .before .before .before .before .pre .1) (getD tableNumbers (c .before .before .before .before .before .loop .i) 0)) }
 
-cast-t25 : tie.Need-cast-t25 Inv-loop μ-loop
-cast-t25 c = record { fits = omega (arith, found-places (view (c .before .before .before .before .before .before .before .before .before .before .before .args .t)) (getD tableNumbers (c .before .before .before .before .before .loop .i) 0) _ _ (sym (c .before .before .before .find .ensures) ∙ c .before .a .given .1) .1, few (c .before .before .before .before .before .before .before .before .before .before .before .args .t) (c .before .before .before .before .before .before .before .before .before .before .before .pre .0) (c .before .before .before .before .before .before .before .before .before .before .before .pre .1) (getD tableNumbers (c .before .before .before .before .before .loop .i) 0)) }
+cast-t27 : tie.Need-cast-t27 Inv-loop μ-loop
+cast-t27 c = record { fits = omega (arith, found-places (view (c .before .before .before .before .before .before .before .before .before .before .before .before .before .before .args .t)) (getD tableNumbers (c .before .before .before .before .before .loop .i) 0) _ _ (sym (c .before .before .before .find .ensures) ∙ c .before .a .given .1) .1, few (c .before .before .before .before .before .before .before .before .before .before .before .before .before .before .args .t) (c .before .before .before .before .before .before .before .before .before .before .before .before .before .before .pre .0) (c .before .before .before .before .before .before .before .before .before .before .before .before .before .before .pre .1) (getD tableNumbers (c .before .before .before .before .before .loop .i) 0)) }
 
-returns : tie.Need-returns Inv-loop μ-loop
-returns c = ap answerOf (sym (ap firstFound (table-findings (view (c .before .before .before .before .before .before .before .before .before .before .before .args .t))) ∙ left-hit _ _ _ (c .before .before .before .before .loop-test .taken) _ _ (sym (c .before .before .before .find .ensures) ∙ c .before .a .given .1) (c .before .before .before .before .before .loop .inv .1)))
+returns-2 : tie.Need-returns-2 Inv-loop μ-loop
+returns-2 c = ap answerOf (sym (ap firstFound (table-findings (view (c .before .before .before .before .before .before .before .before .before .before .before .before .before .before .args .t))) ∙ left-hit _ _ _ (c .before .before .before .before .loop-test .taken) _ _ (sym (c .before .before .before .find .ensures) ∙ c .before .a .given .1) (c .before .before .before .before .before .loop .inv .1)))
 
 enum-told : tie.Need-enum-told Inv-loop μ-loop
 enum-told c = search needs
@@ -71,8 +87,11 @@ loop-less c = search needs
 loop-again : tie.Need-loop-again Inv-loop μ-loop
 loop-again c = (omega arith, left-more _ _ _ (c .before .before .before .loop-test .taken) (sym (c .before .before .find .ensures) ∙ c .enum-told .given .1) (c .before .before .before .before .loop .inv .1), c .before .before .before .before .loop .inv .2, c .before .before .before .before .loop .inv .3)
 
-returns-2 : tie.Need-returns-2 Inv-loop μ-loop
-returns-2 c = ap answerOf (sym (ap firstFound (table-findings (view (c .before .before .before .before .before .before .before .args .t))) ∙ left-done _ _ _ (c .loop-test .left) (c .before .loop .inv .1)))
+unbroken-requires-2 : tie.Need-unbroken-requires-2 Inv-loop μ-loop
+unbroken-requires-2 c κs = search needs
+
+returns-3 : tie.Need-returns-3 Inv-loop μ-loop
+returns-3 c = c .unbroken2 .ensures ∙ ap answerOf (sym (ap firstFound (table-findings (view (c .before .before .before .before .before .before .before .before .before .before .before .args .t))) ∙ left-done _ _ _ (c .before .loop-test .left) (c .before .before .loop .inv .1)))
 
 pub table-rules-spec : {M : Type 1} → statement M
 table-rules-spec =
@@ -83,15 +102,19 @@ table-rules-spec =
     slots-requires
     visits-of-requires
     some-broken-requires
+    all-clear-requires
+    unbroken-requires
+    returns
     loop-holds
     array-read-rule
     find-requires
     enum-known-a
-    cast-t24
-    cast-t25
-    returns
+    cast-t26
+    cast-t27
+    returns-2
     enum-told
     add-i
     loop-less
     loop-again
-    returns-2)
+    unbroken-requires-2
+    returns-3)

@@ -198,27 +198,31 @@ module _ (t : Tables) (held : Held t) {homes doms supers apart above : List ℕ}
       one : (a : ℕ) → a < sizeOf rule P → _≡_ {A = ℕ} (getD (replicate 256 1) a 0) 1
       one a h = getD-replicate 256 a 1 0 (omega (arith, few rule))
 
+  -- two instance methods of one slot have one key, which is not 0
+  module _ (keys : List ℕ) (is : (m : ℕ) → m < length (P .methods) → getD keys m 0 ≡ getD ms m blank .slot) (a b : ℕ) (h : a < length (P .methods)) (one : T (oneSlotBy (getD ms a blank) (getD ms b blank))) where
+    pub keys-same : b < length (P .methods) → getD keys b 0 ≡ getD keys a 0
+    unfolding oneSlotBy
+    keys-same l =
+        let x = getD ms a blank in
+        let y = getD ms b blank in
+        let u = both (eqb (x .stat) 0) _ one in
+        let v = both (eqb (y .stat) 0) (eqb (x .slot) (y .slot)) (u .1) in
+        is b l ∙ sym (eqb→eq (x .slot) (y .slot) (v .1)) ∙ sym (is a h)
+
+    pub keys-some : getD keys a 0 ≡ 0 → ⊥
+    unfolding oneSlotBy slotOf
+    keys-some e =
+        let x = getD ms a blank in
+        let u = both (eqb (x .stat) 0) _ one in
+        let z : (methodAt P a) .static ≡ 0 = sym (ap (λ (z : Method). z .stat) (method-is a h)) ∙ eqb→eq (x .stat) 0 (u .0) in
+        let q : slotOf P a ≡ 0 = sym (ap (λ (z : Method). z .slot) (method-is a h)) ∙ sym (is a h) ∙ e in
+        omega (arith, good .methods a h .slot .1 z)
+
   -- pairs of one slot are looked at: a test that passes at no other pair leaves none out
   pub covers-slots : (test : ℕ → ℕ → Bool) (keys starts nexts : List ℕ) → ((a b : ℕ) → test a b ≡ true → T (oneSlotBy (getD ms a blank) (getD ms b blank)))
       → ((m : ℕ) → m < length (P .methods) → getD keys m 0 ≡ getD ms m blank .slot) → Visited keys (length (P .methods)) starts nexts → Covers (length (P .methods)) test starts nexts
-  unfolding oneSlotBy slotOf
-  covers-slots test keys starts nexts slot is v = record { keys = keys; visited = v; same = same; keyed = keyed }
-    where
-      same : (a b : ℕ) → a < length (P .methods) → b < length (P .methods) → test a b ≡ true → getD keys b 0 ≡ getD keys a 0
-      same a b h l t =
-          let x = getD ms a blank in
-          let y = getD ms b blank in
-          let u = both (eqb (x .stat) 0) _ (slot a b t) in
-          let v = both (eqb (y .stat) 0) (eqb (x .slot) (y .slot)) (u .1) in
-          is b l ∙ sym (eqb→eq (x .slot) (y .slot) (v .1)) ∙ sym (is a h)
-
-      keyed : (a b : ℕ) → a < length (P .methods) → b < length (P .methods) → test a b ≡ true → getD keys a 0 ≡ 0 → ⊥
-      keyed a b h l t e =
-          let x = getD ms a blank in
-          let u = both (eqb (x .stat) 0) _ (slot a b t) in
-          let z : (methodAt P a) .static ≡ 0 = sym (ap (λ (z : Method). z .stat) (method-is a h)) ∙ eqb→eq (x .stat) 0 (u .0) in
-          let q : slotOf P a ≡ 0 = sym (ap (λ (z : Method). z .slot) (method-is a h)) ∙ sym (is a h) ∙ e in
-          omega (arith, good .methods a h .slot .1 z)
+  covers-slots test keys starts nexts slot is v =
+      record { keys = keys; visited = v; same = λ a b h l t. keys-same keys is a b h (slot a b t) l; keyed = λ a b h l t. keys-some keys is a b h (slot a b t) }
 
   searches-slots : (rule : ℕ) (keys starts nexts : List ℕ) → (rule ≡ 10 → ⊥) → (rule ≡ 21 → ⊥) → (rule ≡ 22 → ⊥)
       → ((m : ℕ) → m < length (P .methods) → getD keys m 0 ≡ getD ms m blank .slot) → Visited keys (length (P .methods)) starts nexts

@@ -1,18 +1,22 @@
 -- The rules of methods asked together: where the test of all of them passes nowhere, none of them is broken anywhere.
 -- Assumes nothing.
 use Prim.Native.Nat.{ℕ, _≤_, _<_}
+use native.Mathlib.Decide.{decLt}
 use native.Mathlib.Omega.{arith}
 use mathlib.Core.Path.{_≡_, refl, sym, ap, _∙_, subst}
 use mathlib.Core.Logic.{_⊎_, inl, inr}
 use mathlib.Core.Bool.{Bool, true, false, _||_, _&&_, not}
 use mathlib.Core.Option.{Option, none, some}
 use mathlib.Core.List.{List}
-use lib.Dec.{T, eqb, ltb}
-use lib.ListN.{length, getD}
-use borrow.Author.Tests.{ne-eqb}
-use Rattle.meaning.specs.Lists.{Place, firstPlace}
+use lib.Dec.{T, eqb, ltb, lt→ltb}
+use lib.ListN.{length, getD, take}
+use borrow.Author.Tests.{lt-ltb, le-ltb, ne-eqb}
+use Rattle.meaning.specs.Lists.{Place, firstPlace, anyBelow}
 use Rattle.meaning.specs.Tables.{Package}
-use Rattle.meaning.proofs.Bools.{either, or-left, or-right, true-passes, passes-true, fails-false}
+use Rattle.meaning.specs.Tests.{sameNumbers}
+use Rattle.meaning.proofs.Bools.{both, and, either, or-left, or-right, true-passes, passes-true, false-fails, fails-false, decides-eq, decides-lt, decides-not, stable}
+use Rattle.meaning.proofs.Rules.{decides-sameNumbers}
+use Rattle.meaning.proofs.Lists.{anyBelow-complete}
 use Rattle.meaning.proofs.Search.{firstPlace-complete}
 use Rattle.bits.specs.Rows.{rowBit}
 use Rattle.tables.specs.declared.Method.{Method}
@@ -20,38 +24,61 @@ use Rattle.tables.specs.declared.Tables.{Tables}
 use Rattle.tables.specs.View.{view}
 use Rattle.tables.specs.Held.{Held}
 use Rattle.tables.proofs.Views.{held-methods}
-use Rattle.pair_rules.specs.Tests.{blank, testOf, byOf, bySome, someOf, oneSlotBy, differBy, overridesBy, by11, by12, by23, by24, by25}
-use Rattle.pair_rules.specs.Visits.{Visited}
+use Rattle.pair_rules.specs.Tests.{blank, testOf, byOf, bySome, someOf, differsAt, oneSlotBy, differBy, overridesBy, by11, by12, by23, by24, by25}
+use Rattle.pair_rules.specs.Visits.{FirstFrom, Visited}
 use Rattle.pair_rules.specs.Rows.{Known, SearchesSome}
-use Rattle.pair_rules.specs.Judged.{sizeOf, foundBy, ofMethods, isPlace, BySlot, Broken}
-use Rattle.pair_rules.proofs.Judged.{by-rule, second, leading, fits, covers-slots, methods-rule, test-is}
+use Rattle.pair_rules.specs.Judged.{sizeOf, foundBy, ofMethods, isPlace, brokenBy, BySlot, Broken}
+use Rattle.pair_rules.proofs.Judged.{by-rule, second, leading, fits, keys-same, keys-some, covers-slots, methods-rule, test-is}
 use Rattle.pair_rules.proofs.Stepwise.{nowhere}
 
--- one of five
-module _ (a b c d e : Bool) where
-  one-of : (A : Type 0) → (T a → A) → (T b → A) → (T c → A) → (T d → A) → (T e → A) → T (a || (b || (c || (d || e)))) → A
-  one-of A f g h i j t = on₁ (either a _ t)
+-- one of four
+module _ (a b c d : Bool) where
+  one-of : (A : Type 0) → (T a → A) → (T b → A) → (T c → A) → (T d → A) → T (a || (b || (c || d))) → A
+  one-of A f g h i t = on₁ (either a _ t)
     where
-      on₄ : T d ⊎ T e → A
-      on₄ (inl u) = i u
-      on₄ (inr u) = j u
-
-      on₃ : T c ⊎ T (d || e) → A
+      on₃ : T c ⊎ T d → A
       on₃ (inl u) = h u
-      on₃ (inr u) = on₄ (either d e u)
+      on₃ (inr u) = i u
 
-      on₂ : T b ⊎ T (c || (d || e)) → A
+      on₂ : T b ⊎ T (c || d) → A
       on₂ (inl u) = g u
-      on₂ (inr u) = on₃ (either c _ u)
+      on₂ (inr u) = on₃ (either c d u)
 
-      on₁ : T a ⊎ T (b || (c || (d || e))) → A
+      on₁ : T a ⊎ T (b || (c || d)) → A
       on₁ (inl u) = f u
       on₁ (inr u) = on₂ (either b _ u)
 
-module _ (homes doms supers apart above : List ℕ) (a b : ℕ) (x y : Method) where
-  abbrev t11 : Bool
-  t11 = by11 a b x y
+and-false : (a : Bool) → (a && false) ≡ false
+and-false true = refl
+and-false false = refl
 
+or-false : (a : Bool) → a ≡ (a || false)
+or-false true = refl
+or-false false = refl
+
+-- as the code asks them
+module _ (homes doms supers : List ℕ) (a b : ℕ) (x y : Method) where
+  over-same : eqb (x .class) (y .class) ≡ true → overridesBy supers x y ≡ false
+  unfolding overridesBy
+  over-same e = rw e (and-false (oneSlotBy x y))
+
+  over-apart : rowBit supers (x .class) (y .class) ≡ false → overridesBy supers x y ≡ false
+  unfolding overridesBy
+  over-apart e = rw (e, and-false (not (eqb (x .class) (y .class)))) (and-false (oneSlotBy x y))
+
+  pub no-12 : eqb (x .class) (y .class) ≡ false → by12 a b x y ≡ false
+  unfolding by12
+  no-12 e = rw (e, and-false (oneSlotBy x y)) (and-false (ltb a b))
+
+  pub some-same : eqb (x .class) (y .class) ≡ true → by12 a b x y ≡ bySome homes doms supers a b x y
+  unfolding bySome by23 by24 by25
+  some-same e = rw (over-same e) (or-false (by12 a b x y))
+
+  pub some-apart : eqb (x .class) (y .class) ≡ false → rowBit supers (x .class) (y .class) ≡ false → false ≡ bySome homes doms supers a b x y
+  unfolding bySome by23 by24 by25
+  some-apart e f = rw (no-12 e, over-apart f)
+
+module _ (homes doms supers apart above : List ℕ) (a b : ℕ) (x y : Method) where
   abbrev t12 : Bool
   t12 = by12 a b x y
 
@@ -69,33 +96,79 @@ module _ (homes doms supers apart above : List ℕ) (a b : ℕ) (x y : Method) w
 
   -- such a pair is of two instance methods of one slot
   some-slot : T (bySome homes doms supers a b x y) → T (oneSlotBy x y)
-  unfolding bySome by11 by12 by23 by24 by25 overridesBy proper
+  unfolding bySome by12 by23 by24 by25 overridesBy proper
   some-slot =
-      one-of t11 t12 t23 t24 t25 (T (oneSlotBy x y))
-      (second (ltb a b) (oneSlotBy x y) (differBy x y)) (second (ltb a b) (oneSlotBy x y) (eqb (x .class) (y .class)))
+      one-of t12 t23 t24 t25 (T (oneSlotBy x y))
+      (second (ltb a b) (oneSlotBy x y) (eqb (x .class) (y .class)))
       (leading (oneSlotBy x y) proper _) (leading (oneSlotBy x y) proper _) (leading (oneSlotBy x y) proper _)
 
   Q : ℕ → Type 0
-  Q r = (r ≡ 10 → ⊥) → (r ≡ 21 → ⊥) → (r ≡ 22 → ⊥) → T (testOf r homes doms supers apart above a b x y) → T (bySome homes doms supers a b x y)
+  Q r = (r ≡ 10 → ⊥) → (r ≡ 21 → ⊥) → (r ≡ 22 → ⊥) → T (testOf r homes doms supers apart above a b x y) → T (by11 a b x y) ⊎ T (bySome homes doms supers a b x y)
 
   -- a rule of methods that is broken is one of them
   one-is-some : (rule : ℕ) → Q rule
   unfolding Q testOf bySome
   one-is-some =
       by-rule Q (λ n _ _ _. absurd (n refl))
-      (λ _ _ _. or-left t11 _)
-      (λ _ _ _ u. or-right t11 _ (or-left t12 _ u))
+      (λ _ _ _ u. inl u)
+      (λ _ _ _ u. inr (or-left t12 _ u))
       (λ _ n _ _. absurd (n refl))
       (λ _ _ n _. absurd (n refl))
-      (λ _ _ _ u. or-right t11 _ (or-right t12 _ (or-left t23 _ u)))
-      (λ _ _ _ u. or-right t11 _ (or-right t12 _ (or-right t23 _ (or-left t24 _ u))))
-      (λ r m10 m11 m12 m21 m22 m23 m24 _ _ _. rw (ne-eqb r 10 m10, ne-eqb r 11 m11, ne-eqb r 12 m12, ne-eqb r 21 m21, ne-eqb r 22 m22, ne-eqb r 23 m23, ne-eqb r 24 m24) (λ u. or-right t11 _ (or-right t12 _ (or-right t23 _ (or-right t24 _ u)))))
+      (λ _ _ _ u. inr (or-right t12 _ (or-left t23 _ u)))
+      (λ _ _ _ u. inr (or-right t12 _ (or-right t23 _ (or-left t24 _ u))))
+      (λ r m10 m11 m12 m21 m22 m23 m24 _ _ _. rw (ne-eqb r 10 m10, ne-eqb r 11 m11, ne-eqb r 12 m12, ne-eqb r 21 m21, ne-eqb r 22 m22, ne-eqb r 23 m23, ne-eqb r 24 m24) (λ u. inr (or-right t12 _ (or-right t23 _ (or-right t24 _ u)))))
+
+-- ---- 11: where no method differs from the first of its slot, no two of a slot differ
+
+record Agree (x y : Method) : Type 0 where
+  result : x .result ≡ y .result
+  params : take (x .k) (x .params) ≡ take (y .k) (y .params)
+
+agree : (x y : Method) → differBy x y ≡ false → Agree x y
+unfolding differBy
+agree x y e =
+    let n = false-fails _ e in
+    record {
+      result = stable (decides-eq (x .result) (y .result)) (λ f. n (or-left (not (eqb (x .result) (y .result))) _ (decides-not (decides-eq (x .result) (y .result)) .complete f)));
+      params = stable (decides-sameNumbers (take (x .k) (x .params)) (take (y .k) (y .params))) (λ f. n (or-right (not (eqb (x .result) (y .result))) _ (decides-not (decides-sameNumbers (take (x .k) (x .params)) (take (y .k) (y .params))) .complete f)));
+    }
+
+agrees : (x y : Method) → Agree x y → T (differBy x y) → ⊥
+unfolding differBy
+agrees x y w t = on (either (not (eqb (x .result) (y .result))) _ t)
+  where
+    on : T (not (eqb (x .result) (y .result))) ⊎ T (not (sameNumbers (take (x .k) (x .params)) (take (y .k) (y .params)))) → ⊥
+    on (inl u) = decides-not (decides-eq (x .result) (y .result)) .sound u (w .result)
+    on (inr u) = decides-not (decides-sameNumbers (take (x .k) (x .params)) (take (y .k) (y .params))) .sound u (w .params)
+
+-- as the loop over the methods goes
+module _ (ms : List Method) (n : ℕ) (starts : List ℕ) (a : ℕ) {s : ℕ} (q : s ≡ getD starts a 0) where
+  pub differs-some : s < n → differBy (getD ms s blank) (getD ms a blank) ≡ true → differsAt ms n starts a ≡ true
+  unfolding differsAt
+  differs-some h e = rw (← q, lt-ltb s n h) e
+
+  pub differs-none : s < n → differBy (getD ms s blank) (getD ms a blank) ≡ false → differsAt ms n starts a ≡ false
+  unfolding differsAt
+  differs-none h e = rw (← q, lt-ltb s n h) e
+
+  pub differs-last : n ≤ s → differsAt ms n starts a ≡ false
+  unfolding differsAt
+  differs-last h = rw (← q, le-ltb s n h)
+
+-- the first place of a key is one
+first-one : {keys : List ℕ} {n k r q : ℕ} → FirstFrom keys n 0 k r → FirstFrom keys n 0 k q → r < n → q < n → r ≡ q
+first-one {keys} {n} {k} {r} {q} v w h l = on (decLt r q) (decLt q r)
+  where
+    on : Dec (r < q) → Dec (q < r) → r ≡ q
+    on (yes m) _ = absurd (w .skips r (omega arith) m (v .hit h))
+    on (no _) (yes m) = absurd (v .skips q (omega arith) m (w .hit l))
+    on (no i) (no j) = omega arith
 
 no-place : (o : Option Place) → isPlace o ≡ false → o ≡ none
 no-place none e = refl
 no-place (some p) e = absurd (mathlib.Core.Bool.true≢false e)
 
-module _ (t : Tables) (held : Held t) {homes doms supers apart above : List ℕ} (w : Known (view t) homes doms supers apart above) where
+module _ (t : Tables) (held : Held t) {homes doms supers apart above : List ℕ} (w′ : Known (view t) homes doms supers apart above) where
   abbrev P : Package
   P = view t
 
@@ -115,25 +188,59 @@ module _ (t : Tables) (held : Held t) {homes doms supers apart above : List ℕ}
       subst (λ (k : ℕ). SearchesSome k ms some-at starts nexts) (sym count)
       (record {
         few = held .good .few-methods;
-        fits = fits t held w;
+        fits = fits t held w′;
         covers =
-            covers-slots t held w some-at (v .keys) starts nexts
+            covers-slots t held w′ some-at (v .keys) starts nexts
             (λ a b u. some-slot homes doms supers apart above a b (getD ms a blank) (getD ms b blank) (true-passes _ u))
             (λ m h. v .slots m (rw count h))
             (subst (λ (k : ℕ). Visited (v .keys) k starts nexts) count (v .visited));
       })
 
+  module _ (starts nexts : List ℕ) (v : BySlot ms (t .methods .n) starts nexts) (e : anyBelow (t .methods .n) (differsAt ms (t .methods .n) starts) ≡ false) where
+    -- the row of a method with a slot starts at or before it, with a method that it agrees with
+    agrees-first : (a : ℕ) → a < t .methods .n → (getD (v .keys) a 0 ≡ 0 → ⊥) → (FirstFrom (v .keys) (t .methods .n) 0 (getD (v .keys) a 0) (getD starts a 0)) × ((getD starts a 0 < t .methods .n) × Agree (getD ms (getD starts a 0) blank) (getD ms a blank))
+    unfolding differsAt
+    agrees-first a h k =
+        let f = v .visited .start a h .some k in
+        let l : getD starts a 0 < t .methods .n = stable (decides-lt (getD starts a 0) (t .methods .n)) (λ n. f .skips a (omega arith) (omega (arith, f .most, n)) refl) in
+        let d = fails-false (differBy (getD ms (getD starts a 0) blank) (getD ms a blank)) (λ u. false-fails _ e (anyBelow-complete (differsAt ms (t .methods .n) starts) (t .methods .n) a h (and (ltb (getD starts a 0) (t .methods .n)) _ (lt→ltb (getD starts a 0) (t .methods .n) l) u))) in
+        (f, (l, agree _ _ d))
+
+    none-11 : (a b : ℕ) → a < t .methods .n → b < t .methods .n → T (by11 a b (getD ms a blank) (getD ms b blank)) → ⊥
+    unfolding by11
+    none-11 a b h l u =
+        let x = getD ms a blank in
+        let y = getD ms b blank in
+        let w = both (oneSlotBy x y) (differBy x y) (both (ltb a b) _ u .1) in
+        let is : (m : ℕ) → m < length (P .methods) → getD (v .keys) m 0 ≡ getD ms m blank .slot = λ m i. v .slots m (rw count i) in
+        let h′ : a < length (P .methods) = rw (← count) h in
+        let l′ : b < length (P .methods) = rw (← count) l in
+        let same = keys-same t held w′ (v .keys) is a b h′ (w .0) l′ in
+        let some = keys-some t held w′ (v .keys) is a b h′ (w .0) in
+        let p = agrees-first a h some in
+        let q = agrees-first b l (λ e. some (sym same ∙ e)) in
+        let r : getD starts a 0 ≡ getD starts b 0 = first-one (p .0) (subst (λ (k : ℕ). FirstFrom (v .keys) (t .methods .n) 0 k (getD starts b 0)) same (q .0)) (p .1 .0) (q .1 .0) in
+        let m : Agree (getD ms (getD starts a 0) blank) y = subst (λ (i : ℕ). Agree (getD ms i blank) y) (sym r) (q .1 .1) in
+        agrees x y (record { result = sym (p .1 .1 .result) ∙ m .result; params = sym (p .1 .1 .params) ∙ m .params }) (w .1)
+
   -- and where it finds none
-  pub none-broken : {b : Bool} → b ≡ isPlace (firstPlace (t .methods .n) (λ _. t .methods .n) some-at) → Broken P b
-  unfolding foundBy sizeOf byOf someOf Q
-  none-broken {b} e = record { nowhere = λ f rule o. clear (no-place _ (sym e ∙ f)) rule (methods-rule t held w rule o) }
+  pub none-broken : {starts nexts : List ℕ} {b : Bool} → BySlot ms (t .methods .n) starts nexts → b ≡ brokenBy (t .methods .n) ms starts homes doms supers → Broken P b
+  unfolding foundBy sizeOf byOf someOf Q brokenBy
+  none-broken {starts} {nexts} {b} v e = record { nowhere = λ f rule o. clear (sym e ∙ f) rule (methods-rule t held w′ rule o) }
     where
-      clear : firstPlace (t .methods .n) (λ _. t .methods .n) some-at ≡ none → (rule : ℕ) → (rule ≡ 10 → ⊥) × (rule ≡ 21 → ⊥) × (rule ≡ 22 → ⊥) → foundBy rule P ≡ none
-      clear q rule n =
-          nowhere _ _ (λ a b h l.
-          sym (test-is t held w rule a b h l)
-          ∙ fails-false _ (λ u. firstPlace-complete (t .methods .n) (λ _. t .methods .n) some-at q a b (inside a h) (inside b l)
-          (one-is-some homes doms supers apart above a b (getD ms a blank) (getD ms b blank) rule (n .0) (n .1) (n .2) u)))
+      clear : (anyBelow (t .methods .n) (differsAt ms (t .methods .n) starts) || isPlace (firstPlace (t .methods .n) (λ _. t .methods .n) some-at)) ≡ false
+          → (rule : ℕ) → (rule ≡ 10 → ⊥) × (rule ≡ 21 → ⊥) × (rule ≡ 22 → ⊥) → foundBy rule P ≡ none
+      clear q rule n = nowhere _ _ (λ a b h l. sym (test-is t held w′ rule a b h l) ∙ fails-false _ (λ u. on a b (inside a h) (inside b l) (one-is-some homes doms supers apart above a b (getD ms a blank) (getD ms b blank) rule (n .0) (n .1) (n .2) u)))
         where
           inside : (a : ℕ) → a < sizeOf rule P → a < t .methods .n
           inside a h = rw count (rw (ne-eqb rule 10 (n .0), ne-eqb rule 21 (n .1), ne-eqb rule 22 (n .2)) at h)
+
+          left : anyBelow (t .methods .n) (differsAt ms (t .methods .n) starts) ≡ false
+          left = fails-false _ (λ u. false-fails _ q (or-left (anyBelow (t .methods .n) (differsAt ms (t .methods .n) starts)) _ u))
+
+          right : isPlace (firstPlace (t .methods .n) (λ _. t .methods .n) some-at) ≡ false
+          right = fails-false _ (λ u. false-fails _ q (or-right (anyBelow (t .methods .n) (differsAt ms (t .methods .n) starts)) _ u))
+
+          on : (a b : ℕ) → a < t .methods .n → b < t .methods .n → T (by11 a b (getD ms a blank) (getD ms b blank)) ⊎ T (bySome homes doms supers a b (getD ms a blank) (getD ms b blank)) → ⊥
+          on a b h l (inl u) = none-11 starts nexts v left a b h l u
+          on a b h l (inr u) = firstPlace-complete (t .methods .n) (λ _. t .methods .n) some-at (no-place _ right) a b h l u

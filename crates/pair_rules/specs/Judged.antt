@@ -2,15 +2,15 @@
 -- Assumes nothing.
 use Prim.Native.Nat.{ℕ, _<_}
 use mathlib.Core.Path.{_≡_}
-use mathlib.Core.Bool.{Bool, true, false, _&&_, not, cond}
+use mathlib.Core.Bool.{Bool, true, false, _&&_, _||_, not, cond}
 use mathlib.Core.Option.{Option, none, some}
 use mathlib.Core.List.{List, [], _∷_}
 use lib.Dec.{eqb}
 use lib.ListN.{length, getD}
-use Rattle.meaning.specs.Lists.{Place, firstPlace}
+use Rattle.meaning.specs.Lists.{Place, firstPlace, anyBelow}
 use Rattle.meaning.specs.Tables.{Package}
 use Rattle.tables.specs.declared.Method.{Method}
-use Rattle.pair_rules.specs.Tests.{breaksOf, blank}
+use Rattle.pair_rules.specs.Tests.{breaksOf, blank, someOf, differsAt}
 use Rattle.pair_rules.specs.Visits.{Visited}
 
 -- the rules of the tables in 01's order
@@ -43,6 +43,10 @@ pub record BySlot (ms : List Method) (n : ℕ) (starts nexts : List ℕ) : Type 
 abbrev pub isPlace : Option Place → Bool
 isPlace none = false
 isPlace (some p) = true
+
+-- some rule of methods is broken, as it is asked of all of them together
+unfoldable pub brokenBy : ℕ → List Method → List ℕ → List ℕ → List ℕ → List ℕ → Bool
+brokenBy n ms starts homes doms supers = anyBelow n (differsAt ms n starts) || isPlace (firstPlace n (λ _. n) (someOf ms homes doms supers))
 
 -- where this says false, no rule of methods is broken
 pub record Broken (P : Package) (broken : Bool) : Type 0 where

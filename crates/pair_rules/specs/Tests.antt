@@ -83,10 +83,14 @@ testOf rule homes doms supers apart above a b x y =
 unfoldable pub byOf : ℕ → List Method → List ℕ → List ℕ → List ℕ → List ℕ → List ℕ → ℕ → ℕ → Bool
 byOf rule ms homes doms supers apart above a b = testOf rule homes doms supers apart above a b (getD ms a blank) (getD ms b blank)
 
--- some rule of methods is broken
+-- some rule of methods is broken, 11 aside
 unfoldable pub bySome : List ℕ → List ℕ → List ℕ → ℕ → ℕ → Method → Method → Bool
-bySome homes doms supers a b x y = by11 a b x y || (by12 a b x y || (by23 doms supers x y || (by24 homes doms supers x y || by25 homes doms supers x y)))
+bySome homes doms supers a b x y = by12 a b x y || (by23 doms supers x y || (by24 homes doms supers x y || by25 homes doms supers x y))
 
 -- the same, over the array of methods
 unfoldable pub someOf : List Method → List ℕ → List ℕ → List ℕ → ℕ → ℕ → Bool
 someOf ms homes doms supers a b = bySome homes doms supers a b (getD ms a blank) (getD ms b blank)
+
+-- the method of number a differs from that of the first place of its row, where there is one
+unfoldable pub differsAt : List Method → ℕ → List ℕ → ℕ → Bool
+differsAt ms n starts a = ltb (getD starts a 0) n && differBy (getD ms (getD starts a 0) blank) (getD ms a blank)

@@ -2,12 +2,14 @@
 use crate::visits::Visits;
 use found::Found;
 ghost use mathlib.Core.Path.{_≡_};
+ghost use Prim.Native.Nat.{ℕ, _≤_, _<_};
+ghost use lib.ListN.{getD};
 ghost use Rattle.found.specs.Found.{foundOf};
-ghost use Rattle.meaning.specs.Lists.{firstPlace};
+ghost use Rattle.meaning.specs.Lists.{firstPlace, anyBelow};
 ghost use Rattle.homes.specs.Homes.{Small};
 ghost use Rattle.pair_rules.specs.Rows.{Searches, SearchesSome};
-ghost use Rattle.pair_rules.specs.Judged.{isPlace};
-ghost use Rattle.pair_rules.specs.Tests.{byOf, someOf};
+ghost use Rattle.pair_rules.specs.Judged.{isPlace, brokenBy};
+ghost use Rattle.pair_rules.specs.Tests.{blank, byOf, someOf, differsAt};
 
 fn wide(x: u16) -> usize
     ensures { λ r. ⌜ r ≡ x ⌝ }
@@ -46,8 +48,27 @@ pub(crate) fn first_pair(
     found
 }
 
-// Whether some rule of methods is broken: a package that is accepted is searched once, not once for each rule.
-pub(crate) fn some_broken(
+// Whether a method differs from the first one of its slot: where none does, no two of a slot differ.
+fn some_differ(n: usize, v: Visits, methods: tables::Methods) -> bool
+    requires { ⌜ n ≤ 256 ⌝ }
+    requires { ⌜ ((a : ℕ) → a < n → getD (methods .at) a blank .k ≤ 6) ⌝ }
+    ensures { λ r. ⌜ r ≡ anyBelow n (differsAt (methods .at) n (v .starts)) ⌝ }
+{
+    for a in 0..n {
+        let s = wide(v.starts[a]);
+        if s < n {
+            let x = methods.at[s];
+            let y = methods.at[a];
+            if crate::tests::differ(x, y) {
+                return true;
+            }
+        }
+    }
+    false
+}
+
+// Whether some rule of methods is broken, 11 aside.
+fn some_other(
     n: usize,
     v: Visits,
     methods: tables::Methods,
@@ -71,4 +92,23 @@ pub(crate) fn some_broken(
         }
     }
     false
+}
+
+// Whether some rule of methods is broken: a package that is accepted is searched once, not once for each rule.
+pub(crate) fn some_broken(
+    n: usize,
+    v: Visits,
+    methods: tables::Methods,
+    homes: &[u8; 127],
+    doms: &[u32; 32],
+    supers: &[u64; 254],
+) -> bool
+    requires { ⌜ Small (now homes) ⌝ }
+    requires { ⌜ SearchesSome n (methods .at) (someOf (methods .at) (now homes) (now doms) (now supers)) (v .starts) (v .nexts) ⌝ }
+    ensures { λ r. ⌜ r ≡ brokenBy n (methods .at) (v .starts) (now (homes .entry)) (now (doms .entry)) (now (supers .entry)) ⌝ }
+{
+    if some_differ(n, v, methods) {
+        return true;
+    }
+    some_other(n, v, methods, homes, doms, supers)
 }

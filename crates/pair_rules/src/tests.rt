@@ -40,7 +40,7 @@ fn one_slot(x: Method, y: Method) -> bool
 }
 
 // Their parameters or return types differ.
-fn differ(x: Method, y: Method) -> bool
+pub(crate) fn differ(x: Method, y: Method) -> bool
     requires { ⌜ (x .k ≤ 6) × (y .k ≤ 6) ⌝ }
     ensures { λ r. ⌜ r ≡ differBy x y ⌝ }
 {

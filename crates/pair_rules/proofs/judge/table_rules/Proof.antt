@@ -47,14 +47,14 @@ returns : tie.Need-returns Inv-loop μ-loop
 returns c =
     let s = c .before .before .before .before .before .before .before .before .before in
     c .unbroken .ensures
-    ∙ ap answerOf (sym (found-nothing (s .args .t) (s .pre .0) (s .pre .1) (none-broken _ (s .pre .0) (s .pre .1) (c .before .before .before .before .some-broken .ensures)) (sym (c .before .before .all-clear .ensures) ∙ c .before .if1 .taken)))
+    ∙ ap answerOf (sym (found-nothing (s .args .t) (s .pre .0) (s .pre .1) (none-broken _ (s .pre .0) (s .pre .1) (record { keys = c .before .before .before .before .before .before .before .slots .result; slots = c .before .before .before .before .before .before .before .slots .ensures; visited = c .before .before .before .before .before .visits-of .ensures }) (c .before .before .before .before .some-broken .ensures)) (sym (c .before .before .all-clear .ensures) ∙ c .before .if1 .taken)))
 
 loop-holds : tie.Need-loop-holds Inv-loop μ-loop
 loop-holds c = (
   omega arith,
   left-all _ _,
   record { keys = c .before .before .before .before .before .before .slots .result; slots = c .before .before .before .before .before .before .slots .ensures; visited = c .before .before .before .before .visits-of .ensures },
-  none-broken _ (c .before .before .before .before .before .before .before .before .pre .0) (c .before .before .before .before .before .before .before .before .pre .1) (c .before .before .before .some-broken .ensures),
+  none-broken _ (c .before .before .before .before .before .before .before .before .pre .0) (c .before .before .before .before .before .before .before .before .pre .1) (record { keys = c .before .before .before .before .before .before .slots .result; slots = c .before .before .before .before .before .before .slots .ensures; visited = c .before .before .before .before .visits-of .ensures }) (c .before .before .before .some-broken .ensures),
 )
 
 array-read-rule : tie.Need-array-read-rule Inv-loop μ-loop

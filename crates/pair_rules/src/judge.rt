@@ -4,19 +4,12 @@ use found::Answer;
 use found::Found;
 use tables::Tables;
 ghost use mathlib.Core.Path.{_≡_};
-ghost use Prim.Native.Nat.{ℕ, _<_, _≤_};
-ghost use lib.ListN.{getD};
-ghost use Rattle.meaning.specs.Lists.{anyBelow};
-ghost use Rattle.homes.specs.Homes.{Small};
 ghost use Rattle.found.specs.Found.{foundOf, answerOf};
 ghost use Rattle.meaning.specs.Reading.{answer};
 ghost use Rattle.meaning.specs.Check.{firstFound, tableFindings};
 ghost use Rattle.tables.specs.View.{view};
 ghost use Rattle.tables.specs.Held.{Held};
 ghost use Rattle.pair_rules.specs.Rows.{Known};
-ghost use Rattle.pair_rules.specs.Tests.{by10};
-ghost use Rattle.pair_rules.specs.Stepwise.{blankClass, Steps};
-ghost use Rattle.pair_rules.specs.Clear.{mutualBy, allClear};
 ghost use Rattle.pair_rules.specs.Judged.{sizeBy, foundBy, ofMethods, BySlot, Broken};
 
 const TABLE_RULES: [u8; 8] = [10, 11, 12, 21, 22, 23, 24, 25];
@@ -46,58 +39,6 @@ fn of_methods(rule: u8) -> bool
         return false;
     }
     rule != 22
-}
-
-// Some two distinct ones of n domains dominate each other, the first of them d.
-fn mutual_with(doms: &[u32; 32], n: usize, d: usize) -> bool
-    requires { ⌜ (d < 32) × (n ≤ 32) ⌝ }
-    ensures { λ r. ⌜ r ≡ anyBelow n (by10 (now (doms .entry)) d) ⌝ }
-{
-    for e in 0..n {
-        if crate::tests::breaks_10(doms, d, e) {
-            return true;
-        }
-    }
-    false
-}
-
-fn some_mutual(doms: &[u32; 32], n: usize) -> bool
-    requires { ⌜ n ≤ 32 ⌝ }
-    ensures { λ r. ⌜ r ≡ mutualBy (now (doms .entry)) n ⌝ }
-{
-    for d in 0..n {
-        if mutual_with(doms, n, d) {
-            return true;
-        }
-    }
-    false
-}
-
-// No rule of the tables is broken, where none of methods is.
-fn all_clear(
-    broken: bool,
-    domains: usize,
-    classes: tables::Classes,
-    homes: &[u8; 127],
-    doms: &[u32; 32],
-    apart: &[u64; 254],
-) -> bool
-    requires { ⌜ domains ≤ 32 ⌝ }
-    requires { ⌜ classes .n ≤ 127 ⌝ }
-    requires { ⌜ Small (now homes) ⌝ }
-    requires { ⌜ ((c : ℕ) → c < classes .n → Steps (getD (classes .at) c blankClass)) ⌝ }
-    ensures { λ r. ⌜ r ≡ allClear broken domains (classes .at) (classes .n) (now (homes .entry)) (now (doms .entry)) (now (apart .entry)) ⌝ }
-{
-    if broken {
-        return false;
-    }
-    if some_mutual(doms, domains) {
-        return false;
-    }
-    if !crate::direct::clears(21, classes, homes, doms, apart) {
-        return false;
-    }
-    crate::direct::clears(22, classes, homes, doms, apart)
 }
 
 fn find(
@@ -172,7 +113,7 @@ pub fn table_rules(
     let chains = crate::visits::visits_of(&keys, n);
     let broken = crate::search::some_broken(n, chains, methods, homes, doms, supers);
     let classes = t.classes;
-    if all_clear(broken, t.domains, classes, homes, doms, apart) {
+    if crate::clear::all_clear(broken, t.domains, classes, homes, doms, apart) {
         return unbroken();
     }
     for i in 0..8 {

@@ -1,4 +1,5 @@
 // The rules of the tables, 10 to 25: one search over pairs of numbers for all of them; a rule is a test. What they mean is specs/.
+mod clear;
 mod direct;
 mod judge;
 mod rule;

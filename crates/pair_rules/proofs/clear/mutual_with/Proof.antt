@@ -6,8 +6,8 @@ use native.Mathlib.Omega.{arith}
 use Rattle.pair_rules.specs.Tests.{by10}
 use Rattle.pair_rules.proofs.Stepwise.{NoneBelow, none-yet, none-more, some-below, none-done}
 use borrow.Author.Needs.{needs}
-use Rattle.pair_rules.proofs.judge.mutual_with.Statement.{statement}
-use Rattle.pair_rules.proofs.judge.mutual_with.Tie as tie
+use Rattle.pair_rules.proofs.clear.mutual_with.Statement.{statement}
+use Rattle.pair_rules.proofs.clear.mutual_with.Tie as tie
 
 abbrev Inv-loop : tie.InvT-loop
 Inv-loop doms n d e₀ e = (e ≤ n) × NoneBelow (by10 doms d) e

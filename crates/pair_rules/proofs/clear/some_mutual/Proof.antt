@@ -8,8 +8,8 @@ use Rattle.pair_rules.specs.Tests.{by10}
 use Rattle.pair_rules.specs.Clear.{mutualBy}
 use Rattle.pair_rules.proofs.Stepwise.{NoneBelow, none-yet, none-more, some-below, none-done}
 use borrow.Author.Needs.{needs}
-use Rattle.pair_rules.proofs.judge.some_mutual.Statement.{statement}
-use Rattle.pair_rules.proofs.judge.some_mutual.Tie as tie
+use Rattle.pair_rules.proofs.clear.some_mutual.Statement.{statement}
+use Rattle.pair_rules.proofs.clear.some_mutual.Tie as tie
 
 abbrev Inv-loop : tie.InvT-loop
 Inv-loop doms n d₀ d = (d ≤ n) × NoneBelow (λ (x : ℕ). anyBelow n (by10 doms x)) d

@@ -4,8 +4,8 @@ use mathlib.Core.Path.{sym, _∙_}
 use borrow.Author.Needs.{needs}
 use borrow.Author.Tests.{not-true, not-false}
 use Rattle.pair_rules.specs.Clear.{allClear}
-use Rattle.pair_rules.proofs.judge.all_clear.Statement.{statement}
-use Rattle.pair_rules.proofs.judge.all_clear.Tie as tie
+use Rattle.pair_rules.proofs.clear.all_clear.Statement.{statement}
+use Rattle.pair_rules.proofs.clear.all_clear.Tie as tie
 
 returns : tie.Need-returns
 unfolding allClear

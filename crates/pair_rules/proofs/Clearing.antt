@@ -17,8 +17,9 @@ use Rattle.meaning.proofs.Lists.{anyBelow-complete}
 use Rattle.tables.specs.declared.Tables.{Tables}
 use Rattle.tables.specs.View.{view}
 use Rattle.tables.specs.Held.{Held}
-use Rattle.pair_rules.specs.Tests.{by10, byOf, testOf}
-use Rattle.pair_rules.specs.Rows.{Known}
+use Rattle.pair_tests.specs.Tests.{by10, testOf}
+use Rattle.pair_tests.specs.Rows.{Known}
+use Rattle.pair_rules.specs.Searches.{byOf}
 use Rattle.pair_rules.specs.Stepwise.{clears}
 use Rattle.pair_rules.specs.Judged.{sizeOf, foundBy, ofMethods, Broken}
 use Rattle.pair_rules.specs.Clear.{mutualBy, allClear}

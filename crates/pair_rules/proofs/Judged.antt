@@ -29,11 +29,13 @@ use Rattle.tables.proofs.Views.{held-classes, held-methods}
 use Rattle.found.specs.declared.Found.the-variants.{At}
 use Rattle.found.specs.Found.{foundOf}
 use Rattle.found.proofs.Named.{byNumber, places}
-use Rattle.pair_rules.specs.Tests.{blank, testOf, byOf, breaksOf, oneSlotBy, differBy, overridesBy, by11, by12, by23, by24, by25}
+use Rattle.pair_tests.specs.Tests.{testOf, oneSlotBy, by11, by12, by23, by24, by25}
+use Rattle.pair_tests.specs.Rows.{Known, Fits, Asks}
+use Rattle.pair_tests.proofs.Laws.{law10, law11, law12, law21, law22, law23, law24, law25}
+use Rattle.pair_tests.proofs.Slots.{by-rule, one-slot}
 use Rattle.pair_rules.specs.Visits.{FirstFrom, StartOf, Visited, Covers}
-use Rattle.pair_rules.specs.Rows.{Known, Fits, Asks, Searches}
-use Rattle.pair_rules.specs.Judged.{tableNumbers, sizeBy, sizeOf, foundBy, ofMethods, BySlot}
-use Rattle.pair_rules.proofs.Laws.{law10, law11, law12, law21, law22, law23, law24, law25}
+use Rattle.pair_rules.specs.Searches.{blank, byOf, Searches}
+use Rattle.pair_rules.specs.Judged.{breaksOf, tableNumbers, sizeBy, sizeOf, foundBy, ofMethods, BySlot}
 
 -- the findings, rule by rule
 pub table-findings : (P : Package) → tableFindings P ≡ map (byNumber (λ (r : ℕ). foundBy r P)) tableNumbers
@@ -55,48 +57,6 @@ first-same {A} f g (suc n) h = ap₂ (λ (x y : Option A). elim x as (λ z. Opti
 pub place-same : (n : ℕ) (f g : ℕ → ℕ → Bool) → ((a b : ℕ) → a < n → b < n → f a b ≡ g a b) → firstPlace n (λ _. n) f ≡ firstPlace n (λ _. n) g
 unfolding firstPlace firstIn
 place-same n f g h = first-same _ _ n (λ a l. first-same (λ (b : ℕ). placed a b (f a b)) (λ (b : ℕ). placed a b (g a b)) n (λ b k. ap (placed a b) (h a b l k)))
-
--- a number by the numbers that it may be
-pub by-rule : (Q : ℕ → Type 0) → Q 10 → Q 11 → Q 12 → Q 21 → Q 22 → Q 23 → Q 24
-    → ((r : ℕ) → (r ≡ 10 → ⊥) → (r ≡ 11 → ⊥) → (r ≡ 12 → ⊥) → (r ≡ 21 → ⊥) → (r ≡ 22 → ⊥) → (r ≡ 23 → ⊥) → (r ≡ 24 → ⊥) → Q r) → (r : ℕ) → Q r
-by-rule Q q10 q11 q12 q21 q22 q23 q24 q r =
-    at 10 q10 (λ n10. at 11 q11 (λ n11. at 12 q12 (λ n12. at 21 q21 (λ n21. at 22 q22 (λ n22. at 23 q23 (λ n23. at 24 q24 (λ n24. q r n10 n11 n12 n21 n22 n23 n24)))))))
-  where
-    at : (k : ℕ) → Q k → ((r ≡ k → ⊥) → Q r) → Q r
-    at k y f = on (ℕ-discrete r k)
-      where
-        on : Dec (r ≡ k) → Q r
-        on (yes e) = subst Q (sym e) y
-        on (no n) = f n
-
--- a test of methods that passes is of two instance methods of one slot
-pub second : (p o q : Bool) → T (p && (o && q)) → T o
-second p o q t = both o q (both p (o && q) t .1) .0
-
-pub leading : (o p q : Bool) → T ((o && p) && q) → T o
-leading o p q t = both o p (both (o && p) q t .0) .0
-
-module _ (homes doms supers apart above : List ℕ) (a b : ℕ) (x y : Method) where
-  passes : ℕ → Bool
-  passes r = testOf r homes doms supers apart above a b x y
-
-  Q : ℕ → Type 0
-  Q r = (r ≡ 10 → ⊥) → (r ≡ 21 → ⊥) → (r ≡ 22 → ⊥) → T (passes r) → T (oneSlotBy x y)
-
-  proper : Bool
-  proper = not (eqb (x .class) (y .class)) && rowBit supers (x .class) (y .class)
-
-  one-slot : (rule : ℕ) → Q rule
-  unfolding Q passes proper testOf by11 by12 by23 by24 by25 overridesBy
-  one-slot =
-      by-rule Q (λ n _ _ _. absurd (n refl))
-      (λ _ _ _. second (ltb a b) (oneSlotBy x y) (differBy x y))
-      (λ _ _ _. second (ltb a b) (oneSlotBy x y) (eqb (x .class) (y .class)))
-      (λ _ n _ _. absurd (n refl))
-      (λ _ _ n _. absurd (n refl))
-      (λ _ _ _. leading (oneSlotBy x y) proper _)
-      (λ _ _ _. leading (oneSlotBy x y) proper _)
-      (λ r m10 m11 m12 m21 m22 m23 m24 _ _ _. rw (ne-eqb r 10 m10, ne-eqb r 11 m11, ne-eqb r 12 m12, ne-eqb r 21 m21, ne-eqb r 22 m22, ne-eqb r 23 m23, ne-eqb r 24 m24) (leading (oneSlotBy x y) proper _))
 
 -- ---- the code's test is `meaning`'s, at places of the rule's size
 
@@ -227,7 +187,7 @@ module _ (t : Tables) (held : Held t) {homes doms supers apart above : List ℕ}
   searches-slots : (rule : ℕ) (keys starts nexts : List ℕ) → (rule ≡ 10 → ⊥) → (rule ≡ 21 → ⊥) → (rule ≡ 22 → ⊥)
       → ((m : ℕ) → m < length (P .methods) → getD keys m 0 ≡ getD ms m blank .slot) → Visited keys (length (P .methods)) starts nexts
       → Searches rule (length (P .methods)) ms (by rule) starts nexts
-  unfolding sizeOf byOf Q passes
+  unfolding sizeOf byOf
   searches-slots rule keys starts nexts n10 n21 n22 is v =
       record {
         few = good .few-methods;

@@ -1,6 +1,3 @@
-pub mod Steps
-pub mod Params
-pub mod Laws
 pub mod Filled
 pub mod Visiting
 pub mod Stepwise

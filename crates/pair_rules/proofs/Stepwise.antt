@@ -35,11 +35,10 @@ use Rattle.tables.specs.Pack.{packClass}
 use Rattle.tables.specs.Held.{Held}
 use Rattle.tables.proofs.Pack.{pad-at, pad-take}
 use Rattle.tables.proofs.Views.{held-classes}
-use Rattle.pair_rules.specs.Rows.{Known}
-use Rattle.pair_rules.specs.Tests.{breaksOf}
-use Rattle.pair_rules.specs.Judged.{sizeOf, foundBy, ofMethods}
+use Rattle.pair_tests.specs.Rows.{Known}
+use Rattle.pair_tests.proofs.Laws.{apart-is}
+use Rattle.pair_rules.specs.Judged.{breaksOf, sizeOf, foundBy, ofMethods}
 use Rattle.pair_rules.specs.Stepwise.{blankClass, Steps, within, stepFails, classFails, failsAt, clears}
-use Rattle.pair_rules.proofs.Laws.{apart-is}
 
 -- ---- as the loop over the classes goes
 

@@ -9,9 +9,10 @@ use lib.Dec.{eqb}
 use lib.ListN.{length, getD}
 use Rattle.meaning.specs.Lists.{Place, firstPlace, anyBelow}
 use Rattle.meaning.specs.Tables.{Package}
+use Rattle.meaning.specs.Tests.{breaks10, breaks11, breaks12, breaks21, breaks22, breaks23, breaks24, breaks25}
 use Rattle.tables.specs.declared.Method.{Method}
-use Rattle.pair_rules.specs.Tests.{breaksOf, blank, someOf, differsAt}
 use Rattle.pair_rules.specs.Visits.{Visited}
+use Rattle.pair_rules.specs.Searches.{blank, someOf, differsAt}
 
 -- the rules of the tables in 01's order
 abbrev pub tableNumbers : List ℕ
@@ -24,6 +25,18 @@ sizeBy rule domains classes methods = cond (eqb rule 10) domains (cond (eqb rule
 unfoldable pub sizeOf : ℕ → Package → ℕ
 unfolding sizeBy
 sizeOf rule P = sizeBy rule (P .domains) (length (P .classes)) (length (P .methods))
+
+-- the test of a rule by its number, of the tables' rules
+unfoldable pub breaksOf : ℕ → Package → ℕ → ℕ → Bool
+breaksOf rule P =
+    cond (eqb rule 10) (breaks10 P)
+    (cond (eqb rule 11) (breaks11 P)
+    (cond (eqb rule 12) (breaks12 P)
+    (cond (eqb rule 21) (breaks21 P)
+    (cond (eqb rule 22) (breaks22 P)
+    (cond (eqb rule 23) (breaks23 P)
+    (cond (eqb rule 24) (breaks24 P)
+    (breaks25 P)))))))
 
 -- the first place at which it is broken
 unfoldable pub foundBy : ℕ → Package → Option Place

@@ -1,6 +1,5 @@
-pub mod Tests
 pub mod Visits
-pub mod Rows
+pub mod Searches
 pub mod Judged
 pub mod Stepwise
 pub mod Clear

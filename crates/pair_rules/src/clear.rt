@@ -4,7 +4,7 @@ ghost use Prim.Native.Nat.{ℕ, _<_, _≤_};
 ghost use lib.ListN.{getD};
 ghost use Rattle.meaning.specs.Lists.{anyBelow};
 ghost use Rattle.homes.specs.Homes.{Small};
-ghost use Rattle.pair_rules.specs.Tests.{by10};
+ghost use Rattle.pair_tests.specs.Tests.{by10};
 ghost use Rattle.pair_rules.specs.Stepwise.{blankClass, Steps};
 ghost use Rattle.pair_rules.specs.Clear.{mutualBy, allClear};
 
@@ -14,7 +14,7 @@ fn mutual_with(doms: &[u32; 32], n: usize, d: usize) -> bool
     ensures { λ r. ⌜ r ≡ anyBelow n (by10 (now (doms .entry)) d) ⌝ }
 {
     for e in 0..n {
-        if crate::tests::breaks_10(doms, d, e) {
+        if pair_tests::breaks_10(doms, d, e) {
             return true;
         }
     }

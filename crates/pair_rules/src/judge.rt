@@ -9,7 +9,7 @@ ghost use Rattle.meaning.specs.Reading.{answer};
 ghost use Rattle.meaning.specs.Check.{firstFound, tableFindings};
 ghost use Rattle.tables.specs.View.{view};
 ghost use Rattle.tables.specs.Held.{Held};
-ghost use Rattle.pair_rules.specs.Rows.{Known};
+ghost use Rattle.pair_tests.specs.Rows.{Known};
 ghost use Rattle.pair_rules.specs.Judged.{sizeBy, foundBy, ofMethods, BySlot, Broken};
 
 const TABLE_RULES: [u8; 8] = [10, 11, 12, 21, 22, 23, 24, 25];

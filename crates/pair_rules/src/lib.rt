@@ -1,10 +1,8 @@
-// The rules of the tables, 10 to 25: one search over pairs of numbers for all of them; a rule is a test. What they mean is specs/.
+// The rules of the tables, 10 to 25: one search over pairs of numbers for all of them; a rule is a test of `pair_tests`. What they mean is specs/.
 mod clear;
 mod direct;
 mod judge;
-mod rule;
 mod search;
-mod tests;
 mod visits;
 
 pub use judge::table_rules;

@@ -7,9 +7,8 @@ ghost use lib.ListN.{getD};
 ghost use Rattle.found.specs.Found.{foundOf};
 ghost use Rattle.meaning.specs.Lists.{firstPlace, anyBelow};
 ghost use Rattle.homes.specs.Homes.{Small};
-ghost use Rattle.pair_rules.specs.Rows.{Searches, SearchesSome};
 ghost use Rattle.pair_rules.specs.Judged.{isPlace, brokenBy};
-ghost use Rattle.pair_rules.specs.Tests.{blank, byOf, someOf, differsAt};
+ghost use Rattle.pair_rules.specs.Searches.{blank, byOf, someOf, differsAt, Searches, SearchesSome};
 
 fn wide(x: u16) -> usize
     ensures { λ r. ⌜ r ≡ x ⌝ }
@@ -38,7 +37,7 @@ pub(crate) fn first_pair(
         let x = methods.at[a];
         while b < n {
             let y = methods.at[b];
-            if crate::rule::breaks(rule, homes, doms, supers, apart, above, a, b, x, y) {
+            if pair_tests::breaks(rule, homes, doms, supers, apart, above, a, b, x, y) {
                 found = Found::At(a, b);
                 break 'search;
             }
@@ -59,7 +58,7 @@ fn some_differ(n: usize, v: Visits, methods: tables::Methods) -> bool
         if s < n {
             let x = methods.at[s];
             let y = methods.at[a];
-            if crate::tests::differ(x, y) {
+            if pair_tests::differ(x, y) {
                 return true;
             }
         }
@@ -85,7 +84,7 @@ fn some_other(
         let x = methods.at[a];
         while b < n {
             let y = methods.at[b];
-            if crate::rule::breaks_some(homes, doms, supers, a, b, x, y) {
+            if pair_tests::breaks_some(homes, doms, supers, a, b, x, y) {
                 return true;
             }
             b = wide(v.nexts[b]);

@@ -2,7 +2,7 @@
 ghost use mathlib.Core.Path.{_≡_};
 ghost use Prim.Native.Nat.{ℕ, _<_, _≤_};
 ghost use lib.ListN.{getD, replicate};
-ghost use Rattle.pair_rules.specs.Tests.{blank};
+ghost use Rattle.pair_rules.specs.Searches.{blank};
 ghost use Rattle.pair_rules.specs.Visits.{FirstFrom, OwnStart, Started, Visited};
 
 // Where the row of each place starts, and where a row goes on from each place.

@@ -10,8 +10,8 @@ use Rattle.tables.specs.Held.{Held}
 use Rattle.homes.specs.Homes.{homesOf, Rows}
 use Rattle.homes.proofs.Laws.{home-is}
 use Rattle.trust.specs.Relations.{Homes, dominanceRows, subtypeRows, suspicionRows, suspectRows, above}
-use Rattle.pair_rules.specs.Tests.{aboveApart}
-use Rattle.pair_rules.specs.Rows.{Known}
+use Rattle.pair_tests.specs.Tests.{aboveApart}
+use Rattle.pair_tests.specs.Rows.{Known}
 
 module _ (t : Tables) (held : Held t) {homes doms : List ℕ} (h : homes ≡ homesOf (classesView (t .classes))) (d : doms ≡ dominanceRows (view t)) where
   pub rows-made : Rows (view t) homes doms

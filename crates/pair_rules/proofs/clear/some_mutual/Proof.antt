@@ -4,7 +4,7 @@ use mathlib.Core.Path.{sym, _∙_}
 use Prim.Native.Nat.{ℕ, _≤_, _<_, _-_}
 use native.Mathlib.Omega.{arith}
 use Rattle.meaning.specs.Lists.{anyBelow}
-use Rattle.pair_rules.specs.Tests.{by10}
+use Rattle.pair_tests.specs.Tests.{by10}
 use Rattle.pair_rules.specs.Clear.{mutualBy}
 use Rattle.pair_rules.proofs.Stepwise.{NoneBelow, none-yet, none-more, some-below, none-done}
 use borrow.Author.Needs.{needs}

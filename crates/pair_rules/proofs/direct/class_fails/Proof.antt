@@ -5,7 +5,7 @@ use Prim.Native.Nat.{_≤_, _-_}
 use native.Mathlib.Omega.{arith}
 use lib.ListN.{length}
 use Rattle.pair_rules.specs.Stepwise.{stepFails, classFails}
-use Rattle.pair_rules.proofs.Params.{Asked, asked-all, asked-more, asked-hit, asked-done}
+use Rattle.pair_tests.proofs.Params.{Asked, asked-all, asked-more, asked-hit, asked-done}
 use borrow.Author.Needs.{needs}
 use Rattle.pair_rules.proofs.direct.class_fails.Statement.{statement}
 use Rattle.pair_rules.proofs.direct.class_fails.Tie as tie

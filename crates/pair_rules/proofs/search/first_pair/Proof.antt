@@ -6,7 +6,7 @@ use native.Mathlib.Omega.{arith}
 use Rattle.found.specs.Found.{foundOf}
 use Rattle.found.specs.declared.Found.the-variants.{Nothing}
 use Rattle.meaning.proofs.Search.{Clear, clear-none, clear-more, pair-none, pair-hit}
-use Rattle.pair_rules.specs.Tests.{byOf}
+use Rattle.pair_rules.specs.Searches.{byOf}
 use Rattle.pair_rules.proofs.Visiting.{Stands, stands-start, stands-next, next-up, stands-clear}
 use borrow.Author.Needs.{needs}
 use Rattle.pair_rules.proofs.search.first_pair.Statement.{statement}

@@ -4,7 +4,7 @@ use mathlib.Core.Path.{_≡_, refl, sym, ap, _∙_}
 use Prim.Native.Nat.{_≤_, _-_}
 use native.Mathlib.Omega.{arith}
 use Rattle.meaning.proofs.Search.{Clear, clear-none, clear-more, pair-none, pair-hit}
-use Rattle.pair_rules.specs.Tests.{someOf}
+use Rattle.pair_rules.specs.Searches.{someOf}
 use Rattle.pair_rules.specs.Judged.{isPlace}
 use Rattle.pair_rules.proofs.Visiting.{Stands, stands-start, stands-next, next-up, stands-clear}
 use borrow.Author.Needs.{needs}

@@ -4,7 +4,7 @@ use mathlib.Core.Path.{_≡_, refl, _∙_}
 use Prim.Native.Nat.{_≤_, _-_}
 use native.Mathlib.Omega.{arith}
 use lib.ListN.{length, getD, length-set}
-use Rattle.pair_rules.specs.Tests.{blank}
+use Rattle.pair_rules.specs.Searches.{blank}
 use Rattle.pair_rules.proofs.Filled.{Filled, filled-none, filled-more}
 use borrow.Author.Needs.{needs}
 use Rattle.pair_rules.proofs.visits.slots.Statement.{statement}

@@ -19,10 +19,10 @@ use Rattle.tables.specs.View.{view}
 use Rattle.tables.specs.Held.{Held}
 use Rattle.pair_tests.specs.Tests.{by10, testOf}
 use Rattle.pair_tests.specs.Rows.{Known}
+use Rattle.pair_tests.specs.Stepwise.{clears}
+use Rattle.pair_tests.specs.Clear.{mutualBy, allClear}
 use Rattle.pair_rules.specs.Searches.{byOf}
-use Rattle.pair_rules.specs.Stepwise.{clears}
 use Rattle.pair_rules.specs.Judged.{sizeOf, foundBy, ofMethods, Broken}
-use Rattle.pair_rules.specs.Clear.{mutualBy, allClear}
 use Rattle.pair_rules.proofs.Judged.{test-is, table-findings}
 use Rattle.pair_rules.proofs.Stepwise.{cleared, nowhere}
 

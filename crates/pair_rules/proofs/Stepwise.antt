@@ -2,8 +2,6 @@
 -- and so does suspicion, on either side.
 -- Assumes nothing.
 use Prim.Native.Nat.{ℕ, _+_, _*_, _/_, _%_, _≤_, _<_}
-use native.Mathlib.Numerals.{add-one}
-use native.Mathlib.Nat.{le-antisymm}
 use native.Mathlib.Decide.{ℕ-discrete, decLt}
 use native.Mathlib.Omega.{arith}
 use mathlib.Core.Path.{_≡_, refl, sym, ap, _∙_, subst}
@@ -19,7 +17,7 @@ use Rattle.meaning.specs.Tables.{Package, classAt, supersOf}
 use Rattle.meaning.specs.Trust.{Dominated, Trusts, Suspicious, Subtype}
 use Rattle.meaning.specs.Good.{GoodClass}
 use Rattle.meaning.specs.Tests.{subtype, suspicious, trusts, apartAbove, breaks21, breaks22}
-use Rattle.meaning.proofs.Bools.{decides-test, stable, both, or-left, false-fails, fails-false, passes-true, true-passes}
+use Rattle.meaning.proofs.Bools.{decides-test, stable, both, or-left, false-fails, fails-false, true-passes}
 use Rattle.meaning.proofs.Lists.{any-complete, anyBelow-sound, anyBelow-complete, getD-in}
 use Rattle.meaning.proofs.Trust.{decides-trusts, decides-suspicious, subtype-sound, has-supers}
 use Rattle.meaning.proofs.Search.{firstPlace-sound}
@@ -36,28 +34,9 @@ use Rattle.tables.specs.Held.{Held}
 use Rattle.tables.proofs.Pack.{pad-at, pad-take}
 use Rattle.tables.proofs.Views.{held-classes}
 use Rattle.pair_tests.specs.Rows.{Known}
+use Rattle.pair_tests.specs.Stepwise.{blankClass, Steps, within, stepFails, classFails, failsAt, clears}
 use Rattle.pair_tests.proofs.Laws.{apart-is}
 use Rattle.pair_rules.specs.Judged.{breaksOf, sizeOf, foundBy, ofMethods}
-use Rattle.pair_rules.specs.Stepwise.{blankClass, Steps, within, stepFails, classFails, failsAt, clears}
-
--- ---- as the loop over the classes goes
-
-pub record NoneBelow (f : ℕ → Bool) (i : ℕ) : Type 0 where
-  pub none : anyBelow i f ≡ false
-
-pub none-yet : {f : ℕ → Bool} → NoneBelow f 0
-unfolding anyBelow
-none-yet = record { none = refl }
-
-pub none-more : {f : ℕ → Bool} {i : ℕ} → NoneBelow f i → f i ≡ false → NoneBelow f (i + 1)
-unfolding anyBelow
-none-more {f} {i} w e = record { none = ap (λ (k : ℕ). anyBelow k f) (add-one i) ∙ rw (w .none, e) }
-
-pub some-below : (f : ℕ → Bool) (i n : ℕ) → i < n → f i ≡ true → anyBelow n f ≡ true
-some-below f i n h e = passes-true _ (anyBelow-complete f n i h (true-passes _ e))
-
-pub none-done : {f : ℕ → Bool} {i n : ℕ} → i ≤ n → n ≤ i → NoneBelow f i → anyBelow n f ≡ false
-none-done {f} h l w = ap (λ (k : ℕ). anyBelow k f) (le-antisymm l h) ∙ w .none
 
 -- ---- chains of steps
 

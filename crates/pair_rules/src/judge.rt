@@ -77,7 +77,7 @@ fn find(
             above,
         );
     }
-    if crate::direct::clears(rule, classes, homes, doms, apart) {
+    if pair_tests::clears(rule, classes, homes, doms, apart) {
         return Found::Nothing;
     }
     let keys = crate::visits::plain();
@@ -113,7 +113,7 @@ pub fn table_rules(
     let chains = crate::visits::visits_of(&keys, n);
     let broken = crate::search::some_broken(n, chains, methods, homes, doms, supers);
     let classes = t.classes;
-    if crate::clear::all_clear(broken, t.domains, classes, homes, doms, apart) {
+    if pair_tests::all_clear(broken, t.domains, classes, homes, doms, apart) {
         return unbroken();
     }
     for i in 0..8 {

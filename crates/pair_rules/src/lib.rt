@@ -1,6 +1,4 @@
 // The rules of the tables, 10 to 25: one search over pairs of numbers for all of them; a rule is a test of `pair_tests`. What they mean is specs/.
-mod clear;
-mod direct;
 mod judge;
 mod search;
 mod visits;

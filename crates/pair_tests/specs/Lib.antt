@@ -1,2 +1,4 @@
 pub mod Tests
 pub mod Rows
+pub mod Stepwise
+pub mod Clear

@@ -1,8 +1,11 @@
-// The rules of the tables, 10 to 25, each as a test of one pair of numbers. What they mean is specs/.
+// The tests of the rules of the tables, 10 to 25: each of one pair of numbers, and what is asked before any search. What they mean is specs/.
+mod clear;
+mod direct;
 mod rule;
 mod tests;
 
+pub use clear::all_clear;
+pub use direct::clears;
 pub use rule::breaks;
 pub use rule::breaks_some;
-pub use tests::breaks_10;
 pub use tests::differ;

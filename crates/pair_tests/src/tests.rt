@@ -13,7 +13,7 @@ pub(crate) fn wide(x: u8) -> usize
 }
 
 // Distinct domains dominate each other.
-pub fn breaks_10(doms: &[u32; 32], d: usize, e: usize) -> bool
+pub(crate) fn breaks_10(doms: &[u32; 32], d: usize, e: usize) -> bool
     requires { ⌜ (d < 32) × (e < 32) ⌝ }
     ensures { λ r. ⌜ r ≡ by10 (now (doms .entry)) d e ⌝ }
 {

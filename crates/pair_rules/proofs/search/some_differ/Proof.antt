@@ -6,7 +6,7 @@ use Prim.Native.Nat.{_≤_, _-_}
 use native.Mathlib.Omega.{arith}
 use borrow.Author.Needs.{needs}
 use Rattle.pair_rules.specs.Searches.{differsAt}
-use Rattle.pair_rules.proofs.Stepwise.{NoneBelow, none-yet, none-more, some-below, none-done}
+use Rattle.pair_tests.proofs.Below.{NoneBelow, none-yet, none-more, some-below, none-done}
 use Rattle.pair_rules.proofs.Together.{differs-some, differs-none, differs-last}
 use Rattle.pair_rules.proofs.search.some_differ.Statement.{statement}
 use Rattle.pair_rules.proofs.search.some_differ.Tie as tie

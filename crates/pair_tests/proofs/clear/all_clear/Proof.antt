@@ -1,11 +1,11 @@
--- `pair_rules::all_clear` meets its contract. One test after the other.
+-- `pair_tests::all_clear` meets its contract. One test after the other.
 -- Assumes nothing.
 use mathlib.Core.Path.{sym, _∙_}
 use borrow.Author.Needs.{needs}
 use borrow.Author.Tests.{not-true, not-false}
-use Rattle.pair_rules.specs.Clear.{allClear}
-use Rattle.pair_rules.proofs.clear.all_clear.Statement.{statement}
-use Rattle.pair_rules.proofs.clear.all_clear.Tie as tie
+use Rattle.pair_tests.specs.Clear.{allClear}
+use Rattle.pair_tests.proofs.clear.all_clear.Statement.{statement}
+use Rattle.pair_tests.proofs.clear.all_clear.Tie as tie
 
 returns : tie.Need-returns
 unfolding allClear

@@ -1,13 +1,13 @@
--- `pair_rules::some_fails` meets its contract. No step fails below the class at which the loop stands.
+-- `pair_tests::some_fails` meets its contract. No step fails below the class at which the loop stands.
 -- Assumes nothing.
 use mathlib.Core.Path.{sym, _∙_}
 use Prim.Native.Nat.{_≤_, _-_}
 use native.Mathlib.Omega.{arith}
-use Rattle.pair_rules.specs.Stepwise.{failsAt}
-use Rattle.pair_rules.proofs.Stepwise.{NoneBelow, none-yet, none-more, some-below, none-done}
+use Rattle.pair_tests.specs.Stepwise.{failsAt}
+use Rattle.pair_tests.proofs.Below.{NoneBelow, none-yet, none-more, some-below, none-done}
 use borrow.Author.Needs.{needs}
-use Rattle.pair_rules.proofs.direct.some_fails.Statement.{statement}
-use Rattle.pair_rules.proofs.direct.some_fails.Tie as tie
+use Rattle.pair_tests.proofs.direct.some_fails.Statement.{statement}
+use Rattle.pair_tests.proofs.direct.some_fails.Tie as tie
 
 abbrev Inv-loop : tie.InvT-loop
 Inv-loop rule homes doms apart classes n c₀ c = (c ≤ n) × NoneBelow (failsAt rule (classes .at) homes doms apart) c

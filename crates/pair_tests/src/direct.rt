@@ -1,17 +1,12 @@
 // Rules 21 and 22 asked of direct supertypes alone: where no step from a direct supertype down to its class fails, the rule is broken nowhere.
+use crate::tests::wide;
 use tables::Class;
 ghost use mathlib.Core.Path.{_≡_};
 ghost use Prim.Native.Nat.{ℕ, _<_, _≤_};
 ghost use lib.ListN.{getD};
 ghost use Rattle.meaning.specs.Lists.{anyBelow};
 ghost use Rattle.homes.specs.Homes.{Small};
-ghost use Rattle.pair_rules.specs.Stepwise.{blankClass, Steps, within, stepFails, classFails, failsAt, clears};
-
-fn wide(x: u8) -> usize
-    ensures { λ r. ⌜ r ≡ x ⌝ }
-{
-    x as usize
-}
+ghost use Rattle.pair_tests.specs.Stepwise.{blankClass, Steps, within, stepFails, classFails, failsAt, clears};
 
 // Row s is within row c.
 fn row_within(rows: &[u64; 254], s: usize, c: usize) -> bool
@@ -90,7 +85,7 @@ fn some_fails(
 }
 
 // Rule 10 is not one of classes.
-pub(crate) fn clears(
+pub fn clears(
     rule: u8,
     classes: tables::Classes,
     homes: &[u8; 127],

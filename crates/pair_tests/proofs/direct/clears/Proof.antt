@@ -1,10 +1,10 @@
--- `pair_rules::clears` meets its contract. One test after the other.
+-- `pair_tests::clears` meets its contract. One test after the other.
 -- Assumes nothing.
 use borrow.Author.Tests.{eq-eqb, ne-eqb}
-use Rattle.pair_rules.specs.Stepwise.{clears}
+use Rattle.pair_tests.specs.Stepwise.{clears}
 use borrow.Author.Needs.{needs}
-use Rattle.pair_rules.proofs.direct.clears.Statement.{statement}
-use Rattle.pair_rules.proofs.direct.clears.Tie as tie
+use Rattle.pair_tests.proofs.direct.clears.Statement.{statement}
+use Rattle.pair_tests.proofs.direct.clears.Tie as tie
 
 returns : tie.Need-returns
 unfolding clears

@@ -4,9 +4,9 @@ ghost use Prim.Native.Nat.{ℕ, _<_, _≤_};
 ghost use lib.ListN.{getD};
 ghost use Rattle.meaning.specs.Lists.{anyBelow};
 ghost use Rattle.homes.specs.Homes.{Small};
 ghost use Rattle.pair_tests.specs.Tests.{by10};
-ghost use Rattle.pair_rules.specs.Stepwise.{blankClass, Steps};
-ghost use Rattle.pair_rules.specs.Clear.{mutualBy, allClear};
+ghost use Rattle.pair_tests.specs.Stepwise.{blankClass, Steps};
+ghost use Rattle.pair_tests.specs.Clear.{mutualBy, allClear};
 
 // Some two distinct ones of n domains dominate each other, the first of them d.
 fn mutual_with(doms: &[u32; 32], n: usize, d: usize) -> bool
@@ -14,7 +14,7 @@ fn mutual_with(doms: &[u32; 32], n: usize, d: usize) -> bool
     ensures { λ r. ⌜ r ≡ anyBelow n (by10 (now (doms .entry)) d) ⌝ }
 {
     for e in 0..n {
-        if pair_tests::breaks_10(doms, d, e) {
+        if crate::tests::breaks_10(doms, d, e) {
             return true;
         }
     }
@@ -34,7 +34,7 @@ fn some_mutual(doms: &[u32; 32], n: usize) -> bool
 }
 
 // No rule of the tables is broken, where none of methods is.
-pub(crate) fn all_clear(
+pub fn all_clear(
     broken: bool,
     domains: usize,
     classes: tables::Classes,

@@ -1,15 +1,15 @@
--- `pair_rules::some_mutual` meets its contract. No domain below the one at which the loop stands breaks 10 with another.
+-- `pair_tests::some_mutual` meets its contract. No domain below the one at which the loop stands breaks 10 with another.
 -- Assumes nothing.
 use mathlib.Core.Path.{sym, _∙_}
 use Prim.Native.Nat.{ℕ, _≤_, _<_, _-_}
 use native.Mathlib.Omega.{arith}
 use Rattle.meaning.specs.Lists.{anyBelow}
 use Rattle.pair_tests.specs.Tests.{by10}
-use Rattle.pair_rules.specs.Clear.{mutualBy}
-use Rattle.pair_rules.proofs.Stepwise.{NoneBelow, none-yet, none-more, some-below, none-done}
+use Rattle.pair_tests.specs.Clear.{mutualBy}
+use Rattle.pair_tests.proofs.Below.{NoneBelow, none-yet, none-more, some-below, none-done}
 use borrow.Author.Needs.{needs}
-use Rattle.pair_rules.proofs.clear.some_mutual.Statement.{statement}
-use Rattle.pair_rules.proofs.clear.some_mutual.Tie as tie
+use Rattle.pair_tests.proofs.clear.some_mutual.Statement.{statement}
+use Rattle.pair_tests.proofs.clear.some_mutual.Tie as tie
 
 abbrev Inv-loop : tie.InvT-loop
 Inv-loop doms n d₀ d = (d ≤ n) × NoneBelow (λ (x : ℕ). anyBelow n (by10 doms x)) d

@@ -1,10 +1,10 @@
--- `pair_rules::step_fails` meets its contract. One test after the other.
+-- `pair_tests::step_fails` meets its contract. One test after the other.
 -- Assumes nothing.
 use borrow.Author.Tests.{eq-eqb, ne-eqb}
-use Rattle.pair_rules.specs.Stepwise.{stepFails}
+use Rattle.pair_tests.specs.Stepwise.{stepFails}
 use borrow.Author.Needs.{needs}
-use Rattle.pair_rules.proofs.direct.step_fails.Statement.{statement}
-use Rattle.pair_rules.proofs.direct.step_fails.Tie as tie
+use Rattle.pair_tests.proofs.direct.step_fails.Statement.{statement}
+use Rattle.pair_tests.proofs.direct.step_fails.Tie as tie
 
 cast-trusts : tie.Need-cast-trusts
 cast-trusts c = search needs

@@ -5,8 +5,8 @@ use mathlib.Core.Bool.{Bool, _&&_, not}
 use mathlib.Core.List.{List}
 use Rattle.meaning.specs.Lists.{anyBelow}
 use Rattle.tables.specs.declared.Class.{Class}
 use Rattle.pair_tests.specs.Tests.{by10}
-use Rattle.pair_rules.specs.Stepwise.{clears}
+use Rattle.pair_tests.specs.Stepwise.{clears}
 
 -- some two of n domains break 10
 unfoldable pub mutualBy : List ℕ → ℕ → Bool

@@ -1,13 +1,13 @@
--- `pair_rules::mutual_with` meets its contract. No domain below the one at which the loop stands breaks 10 with d.
+-- `pair_tests::mutual_with` meets its contract. No domain below the one at which the loop stands breaks 10 with d.
 -- Assumes nothing.
 use mathlib.Core.Path.{sym, _∙_}
 use Prim.Native.Nat.{ℕ, _≤_, _<_, _-_}
 use native.Mathlib.Omega.{arith}
 use Rattle.pair_tests.specs.Tests.{by10}
-use Rattle.pair_rules.proofs.Stepwise.{NoneBelow, none-yet, none-more, some-below, none-done}
+use Rattle.pair_tests.proofs.Below.{NoneBelow, none-yet, none-more, some-below, none-done}
 use borrow.Author.Needs.{needs}
-use Rattle.pair_rules.proofs.clear.mutual_with.Statement.{statement}
-use Rattle.pair_rules.proofs.clear.mutual_with.Tie as tie
+use Rattle.pair_tests.proofs.clear.mutual_with.Statement.{statement}
+use Rattle.pair_tests.proofs.clear.mutual_with.Tie as tie
 
 abbrev Inv-loop : tie.InvT-loop
 Inv-loop doms n d e₀ e = (e ≤ n) × NoneBelow (by10 doms d) e

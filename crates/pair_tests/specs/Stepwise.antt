@@ -1,4 +1,4 @@
--- What rules 21 and 22 ask of a class and its direct supertypes alone: where no step down fails, the rule is broken nowhere (proofs/Stepwise.antt).
+-- What rules 21 and 22 ask of a class and its direct supertypes alone: where no step down fails, the rule is broken nowhere (`pair_rules`, proofs/Stepwise.antt).
 -- Assumes nothing.
 use Prim.Native.Nat.{ℕ, _+_, _*_, _≤_, _<_}
 use mathlib.Core.Bool.{Bool, _&&_, not, cond}

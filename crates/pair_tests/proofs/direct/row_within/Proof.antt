@@ -1,10 +1,10 @@
--- `pair_rules::row_within` meets its contract. One word after the other.
+-- `pair_tests::row_within` meets its contract. One word after the other.
 -- Assumes nothing.
 use borrow.Author.Tests.{eq-eqb, ne-eqb}
-use Rattle.pair_rules.specs.Stepwise.{within}
+use Rattle.pair_tests.specs.Stepwise.{within}
 use borrow.Author.Needs.{needs}
-use Rattle.pair_rules.proofs.direct.row_within.Statement.{statement}
-use Rattle.pair_rules.proofs.direct.row_within.Tie as tie
+use Rattle.pair_tests.proofs.direct.row_within.Statement.{statement}
+use Rattle.pair_tests.proofs.direct.row_within.Tie as tie
 
 mul-i : tie.Need-mul-i
 mul-i c = search needs

@@ -1,14 +1,14 @@
--- `pair_rules::class_fails` meets its contract. What is left of the supertypes has a step that fails exactly where all of them have.
+-- `pair_tests::class_fails` meets its contract. What is left of the supertypes has a step that fails exactly where all of them have.
 -- Assumes nothing.
 use mathlib.Core.Path.{_≡_, sym, _∙_}
 use Prim.Native.Nat.{_≤_, _-_}
 use native.Mathlib.Omega.{arith}
 use lib.ListN.{length}
-use Rattle.pair_rules.specs.Stepwise.{stepFails, classFails}
+use Rattle.pair_tests.specs.Stepwise.{stepFails, classFails}
 use Rattle.pair_tests.proofs.Params.{Asked, asked-all, asked-more, asked-hit, asked-done}
 use borrow.Author.Needs.{needs}
-use Rattle.pair_rules.proofs.direct.class_fails.Statement.{statement}
-use Rattle.pair_rules.proofs.direct.class_fails.Tie as tie
+use Rattle.pair_tests.proofs.direct.class_fails.Statement.{statement}
+use Rattle.pair_tests.proofs.direct.class_fails.Tie as tie
 
 abbrev Inv-loop : tie.InvT-loop
 Inv-loop rule homes doms apart c x k j₀ j = (j ≤ k) × (k ≡ x .k) × Asked (stepFails rule homes doms apart c) k (x .supers) j

@@ -71,9 +71,10 @@ module _ (P : Package) (Q : Reader) (n : ℕ) (f : List ℕ) where
 by-judge : {x y : ℕ} {R : Reader} {o : Took Reader} → o ≡ judged x (takes R) → y ≡ x → Judges y R o
 by-judge {x} {y} {R} {o} e q = record { taken = λ z. e ∙ judged-taken x (takes R) (sym q ∙ z); refused = λ z. e ∙ judged-refused x (takes R) (λ w. z (q ∙ w)) ∙ rw q }
 
--- the code judges by what it found
-pub by-names : (n : ℕ) (f : Frame) {d e : Named} {no : ℕ} → no ≡ judgeStep d n f → d ≡ e → no ≡ judgeStep e n f
-by-names n f j q = j ∙ ap (λ (d : Named). judgeStep d n f) q
+-- the code judges by the rows at i and j, which are the step's numbers
+pub by-names : (nc : ℕ) (fs : Fields) (ms : Methods) (n : ℕ) (f : Frame) {i j no : ℕ} {d : Named} → i ≡ at f 1 → j ≡ at f 2 → d ≡ N.namedAt nc fs ms i j zeroField noMethod noMethod → no ≡ judgeStep d n f
+    → no ≡ judgeStep (namedAt nc fs ms f) n f
+by-names nc fs ms n f v w q e = e ∙ ap (λ (d : Named). judgeStep d n f) q ∙ (λ t. judgeStep (N.namedAt nc fs ms (v t) (w t) zeroField noMethod noMethod) n f)
 
 -- ---- the sections
 

@@ -13,6 +13,7 @@ use Rattle.runs.specs.Steps.{holds, hasLink}
 use Rattle.runs.specs.Run.{Placed}
 use Rattle.runs.specs.Script.{Reader}
 use Rattle.text.specs.declared.Frame.{Frame}
+use Rattle.tables.specs.declared.Field.{Field}
 use Rattle.tables.specs.declared.Fields.{Fields}
 use Rattle.tables.specs.declared.Method.{Method}
 use Rattle.tables.specs.declared.Methods.{Methods}
@@ -113,18 +114,21 @@ oneStep x k = record { at = set (x .at) (x .n) k; n = x .n + 1 }
 abbrev pub noMethod : Method
 noMethod = record { class = 0; label = 0; stat = 0; slot = 0; result = 0; k = 0; params = [] }
 
--- what is declared at the numbers of a step's frame
-abbrev pub namedAt : ℕ → Fields → Methods → Frame → Named
-namedAt nc fields methods f =
+-- what is declared, with the rows at the numbers of a step's frame
+abbrev pub namedBy : ℕ → ℕ → ℕ → Field → Method → Method → Named
+namedBy nc nf nm field called runs =
     record {
       classes = nc;
-      fields = fields .n;
-      methods = methods .n;
-      field = (getD (fields .at) (at f 1) zeroField) .stat;
-      called = (getD (methods .at) (at f 1) noMethod) .stat;
-      k = (getD (methods .at) (at f 1) noMethod) .k;
-      runs = (getD (methods .at) (at f 2) noMethod) .stat;
+      fields = nf;
+      methods = nm;
+      field = field .stat;
+      called = called .stat;
+      k = called .k;
+      runs = runs .stat;
     }
+
+abbrev pub namedAt : ℕ → Fields → Methods → Frame → Named
+namedAt nc fs ms f = namedBy nc (fs .n) (ms .n) (getD (fs .at) (at f 1) zeroField) (getD (ms .at) (at f 1) noMethod) (getD (ms .at) (at f 2) noMethod)
 
 pub record HasDeclared (nc : ℕ) (fs : Fields) (ms : Methods) (P : Package) (R : Reader) : Type 0 where
   pub good : Good P

@@ -4,6 +4,7 @@ use state::Label;
 ghost use mathlib.Core.Path.{_≡_};
 ghost use Prim.Native.Nat.{_≤_, _<_};
 ghost use mathlib.Core.List.{[]};
+ghost use Rattle.text.specs.Values.{digitTable};
 ghost use Rattle.lines.specs.Cursors.{Within};
 ghost use Rattle.script.specs.Sections.{Section};
 ghost use Rattle.script.specs.Lists.{noLabels, oneLabel, HoldsLabels, withLabels, HasObjects};
@@ -51,6 +52,7 @@ fn one_label(x: LabelLines, l: Label) -> LabelLines
 
 // With nc classes, the classes of the objects, and the rows of the supertypes.
 pub(crate) fn read_labels(
+    digits: &[u8; 256],
     s: &[u8],
     from: Cursor,
     nc: usize,
@@ -58,12 +60,13 @@ pub(crate) fn read_labels(
     rows: &[u64; 254],
 ) -> LabelsRead
     requires { ⌜ Within (now s) from ⌝ }
+    requires { ⌜ now digits ≡ digitTable ⌝ }
     ensures { λ r. ⌜ Section HoldsLabels withLabels (HasObjects nc pool (now (rows .entry))) 0x14 (now (s .entry)) from [] (r .next) (r .labels) ⌝ }
 {
     let mut x = no_labels();
     let mut next = from;
     loop {
-        let cut = lines::line_of(s, next, 0x14);
+        let cut = lines::line_by(digits, s, next, 0x14);
         let here = cut.ok;
         if !here {
             return LabelsRead { next, labels: x };

@@ -68,15 +68,16 @@ pub fn read(s: &[u8], t: Tables, rows: &[u64; 254]) -> Script
     let nc = t.classes.n;
     let fields = t.fields;
     let methods = t.methods;
+    let digits = text::digits();
     let e = entry::read_entry(s, methods.n);
-    let o = object_lines::read_objects(s, e.next, nc);
+    let o = object_lines::read_objects(&digits, s, e.next, nc);
     let pool = o.pool;
     let none = link_lines::no_links();
-    let a = link_lines::read_static_links(s, o.next, none, nc, fields, pool, rows);
+    let a = link_lines::read_static_links(&digits, s, o.next, none, nc, fields, pool, rows);
     let some = a.links;
-    let b = link_lines::read_object_links(s, a.next, some, nc, fields, pool, rows);
-    let l = label_lines::read_labels(s, b.next, nc, pool, rows);
-    let k = step_lines::read_steps(s, l.next, nc, fields, methods);
+    let b = link_lines::read_object_links(&digits, s, a.next, some, nc, fields, pool, rows);
+    let l = label_lines::read_labels(&digits, s, b.next, nc, pool, rows);
+    let k = step_lines::read_steps(&digits, s, l.next, nc, fields, methods);
     let end = lines::last_line(s, k.next, 0x2F, 50);
     if end.no != 0 {
         return refused(end.no, end.line + 1);

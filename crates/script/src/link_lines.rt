@@ -6,6 +6,7 @@ ghost use mathlib.Core.Path.{_≡_};
 ghost use Prim.Native.Nat.{_≤_, _<_};
 ghost use mathlib.Core.List.{List};
 ghost use Rattle.runs.specs.Machine as M;
+ghost use Rattle.text.specs.Values.{digitTable};
 ghost use Rattle.lines.specs.Cursors.{Within};
 ghost use Rattle.script.specs.Sections.{Section};
 ghost use Rattle.script.specs.Lists.{noLinks, oneLink, HoldsLinks, SomeLinks, withLinks, HasFields};
@@ -58,6 +59,7 @@ fn one_link(x: LinkLines, k: Link) -> LinkLines
 
 // With nc classes, the fields, the classes of the objects, and the rows of the supertypes.
 pub(crate) fn read_static_links(
+    digits: &[u8; 256],
     s: &[u8],
     from: Cursor,
     links: LinkLines,
@@ -67,13 +69,14 @@ pub(crate) fn read_static_links(
     rows: &[u64; 254],
 ) -> LinksRead
     requires { ⌜ Within (now s) from ⌝ }
+    requires { ⌜ now digits ≡ digitTable ⌝ }
     requires { ⌜ SomeLinks links ⌝ }
     ensures { λ r. ⌜ ((ks : List M.Link) → HoldsLinks ks links → Section HoldsLinks withLinks (HasFields nc fields pool (now (rows .entry))) 0x12 (now (s .entry)) from ks (r .next) (r .links)) ⌝ }
 {
     let mut x = links;
     let mut next = from;
     loop {
-        let cut = lines::line_of(s, next, 0x12);
+        let cut = lines::line_by(digits, s, next, 0x12);
         let here = cut.ok;
         if !here {
             return LinksRead { next, links: x };
@@ -92,6 +95,7 @@ pub(crate) fn read_static_links(
 }
 
 pub(crate) fn read_object_links(
+    digits: &[u8; 256],
     s: &[u8],
     from: Cursor,
     links: LinkLines,
@@ -101,13 +105,14 @@ pub(crate) fn read_object_links(
     rows: &[u64; 254],
 ) -> LinksRead
     requires { ⌜ Within (now s) from ⌝ }
+    requires { ⌜ now digits ≡ digitTable ⌝ }
     requires { ⌜ SomeLinks links ⌝ }
     ensures { λ r. ⌜ ((ks : List M.Link) → HoldsLinks ks links → Section HoldsLinks withLinks (HasFields nc fields pool (now (rows .entry))) 0x13 (now (s .entry)) from ks (r .next) (r .links)) ⌝ }
 {
     let mut x = links;
     let mut next = from;
     loop {
-        let cut = lines::line_of(s, next, 0x13);
+        let cut = lines::line_by(digits, s, next, 0x13);
         let here = cut.ok;
         if !here {
             return LinksRead { next, links: x };

@@ -4,6 +4,7 @@ ghost use mathlib.Core.Path.{_≡_};
 ghost use Prim.Native.Nat.{_≤_};
 ghost use lib.ListN.{replicate};
 ghost use mathlib.Core.List.{[]};
+ghost use Rattle.text.specs.Values.{digitTable};
 ghost use Rattle.lines.specs.Cursors.{Within};
 ghost use Rattle.run_frames.proofs.Pools.{Has};
 ghost use Rattle.script.specs.Sections.{Section};
@@ -21,15 +22,16 @@ fn no_objects() -> [u8; 256]
 }
 
 // With nc classes.
-pub(crate) fn read_objects(s: &[u8], from: Cursor, nc: usize) -> ObjectsRead
+pub(crate) fn read_objects(digits: &[u8; 256], s: &[u8], from: Cursor, nc: usize) -> ObjectsRead
     requires { ⌜ Within (now s) from ⌝ }
+    requires { ⌜ now digits ≡ digitTable ⌝ }
     requires { ⌜ nc ≤ 127 ⌝ }
     ensures { λ r. ⌜ Section Has withObjects (HasClasses nc) 0x11 (now (s .entry)) from [] (r .next) (r .pool) ⌝ }
 {
     let mut pool = no_objects();
     let mut next = from;
     loop {
-        let cut = lines::line_of(s, next, 0x11);
+        let cut = lines::line_by(digits, s, next, 0x11);
         let here = cut.ok;
         if !here {
             return ObjectsRead { next, pool };

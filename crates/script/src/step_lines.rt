@@ -3,16 +3,18 @@ use lines::Cursor;
 use run_frames::step::Named;
 use steps::Step;
 use steps::Steps;
+use tables::Field;
 use tables::Fields;
+use tables::Method;
 use tables::Methods;
-use text::Frame;
 ghost use mathlib.Core.Path.{_≡_};
 ghost use Prim.Native.Nat.{_≤_};
 ghost use mathlib.Core.List.{[]};
 ghost use lib.ListN.{length};
+ghost use Rattle.text.specs.Values.{digitTable};
 ghost use Rattle.lines.specs.Cursors.{Within};
 ghost use Rattle.script.specs.Sections.{Section};
-ghost use Rattle.script.specs.Lists.{noSteps, namedAt, HoldsSteps, withSteps, HasDeclared};
+ghost use Rattle.script.specs.Lists.{noSteps, namedBy, HoldsSteps, withSteps, HasDeclared};
 
 pub struct StepsRead {
     pub next: Cursor,
@@ -32,19 +34,14 @@ pub(crate) fn no_steps() -> Steps
     }
 }
 
-// What is declared at the numbers of a step's frame.
-fn named(nc: usize, fields: Fields, methods: Methods, f: Frame) -> Named
-    ensures { λ r. ⌜ r ≡ namedAt nc fields methods f ⌝ }
+// What is declared, with the rows at the numbers of a step's frame: the tables are too large to be handed on for each line.
+fn named(nc: usize, nf: usize, nm: usize, field: Field, called: Method, runs: Method) -> Named
+    ensures { λ r. ⌜ r ≡ namedBy nc nf nm field called runs ⌝ }
 {
-    let i = lines::wide(f.b[1]);
-    let j = lines::wide(f.b[2]);
-    let field = fields.at[i];
-    let called = methods.at[i];
-    let runs = methods.at[j];
     Named {
         classes: nc,
-        fields: fields.n,
-        methods: methods.n,
+        fields: nf,
+        methods: nm,
         field: field.stat,
         called: called.stat,
         k: called.k,
@@ -54,6 +51,7 @@ fn named(nc: usize, fields: Fields, methods: Methods, f: Frame) -> Named
 
 // With nc classes, the fields and the methods.
 pub(crate) fn read_steps(
+    digits: &[u8; 256],
     s: &[u8],
     from: Cursor,
     nc: usize,
@@ -61,20 +59,26 @@ pub(crate) fn read_steps(
     methods: Methods,
 ) -> StepsRead
     requires { ⌜ Within (now s) from ⌝ }
+    requires { ⌜ now digits ≡ digitTable ⌝ }
     requires { ⌜ length (now s) ≤ 32768 ⌝ }
     ensures { λ r. ⌜ Section HoldsSteps withSteps (HasDeclared nc fields methods) 0x20 (now (s .entry)) from [] (r .next) (r .steps) ⌝ }
 {
     let mut x = no_steps();
     let mut next = from;
     loop {
-        let cut = lines::line_of(s, next, 0x20);
+        let cut = lines::line_by(digits, s, next, 0x20);
         let here = cut.ok;
         if !here {
             return StepsRead { next, steps: x };
         }
         let f = cut.frame;
         let n = x.n;
-        let d = named(nc, fields, methods, f);
+        let i = lines::wide(f.b[1]);
+        let j = lines::wide(f.b[2]);
+        let field = fields.at[i];
+        let called = methods.at[i];
+        let runs = methods.at[j];
+        let d = named(nc, fields.n, methods.n, field, called, runs);
         let no = run_frames::step::judge_step(d, n, f);
         if no != 0 {
             next.no = no;

@@ -2,11 +2,12 @@
 -- Assumes nothing.
 use Prim.Native.Nat.{_-_}
 use native.Mathlib.Omega.{arith}
-use mathlib.Core.Path.{sym, _∙_}
+use mathlib.Core.Path.{refl, sym, _∙_}
 use mathlib.Core.List.{[]}
 use lib.ListN.{length}
 use borrow.Author.Needs.{needs}
 use borrow.Author.Tests.{not-true, not-false}
+use Rattle.meaning.specs.Kinds.{rowOf}
 use Rattle.lines.proofs.Looks.{found, missing, moved-within}
 use Rattle.run_frames.specs.Judging.{judgeLabel}
 use Rattle.run_frames.proofs.Asked.{has-room}
@@ -19,28 +20,29 @@ use Rattle.script.proofs.label_lines.read_labels.Statement.{statement}
 use Rattle.script.proofs.label_lines.read_labels.Tie as tie
 
 abbrev Inv-loop : tie.InvT-loop
-Inv-loop s nc pool rows x₀ next₀ x next = Going HoldsLabels withLabels (HasObjects nc pool rows) 0x14 s next₀ [] next x
+Inv-loop digits s nc pool rows x₀ next₀ x next = Going HoldsLabels withLabels (HasObjects nc pool rows) 0x14 s next₀ [] next x
 
 abbrev μ-loop : tie.MeasureT-loop
-μ-loop s nc pool rows x₀ next₀ x next = length s - next .at
+μ-loop digits s nc pool rows x₀ next₀ x next = length s - next .at
 
 no-labels-requires : tie.Need-no-labels-requires Inv-loop μ-loop
 no-labels-requires c κs = search needs
 
 loop-holds : tie.Need-loop-holds Inv-loop μ-loop
-loop-holds c = going-start (c .no-labels .ensures ∙ labels-none) (c .before .before .pre)
+loop-holds c = going-start (c .no-labels .ensures ∙ labels-none) (c .before .before .pre .0)
 
-line-of-requires : tie.Need-line-of-requires Inv-loop μ-loop
-line-of-requires c κs = search needs
+line-by-requires : tie.Need-line-by-requires Inv-loop μ-loop
+unfolding rowOf
+line-by-requires c κs = (c .before .before .before .pre .1, refl)
 
 returns : tie.Need-returns Inv-loop μ-loop
-returns c = going-past (c .before .before .loop .inv) (missing _ _ _ (c .before .line-of .ensures) (not-true _ (c .if1 .taken)))
+returns c = going-past (c .before .before .loop .inv) (missing _ _ _ (c .before .line-by .ensures) (not-true _ (c .if1 .taken)))
 
 judge-label-requires : tie.Need-judge-label-requires Inv-loop μ-loop
 judge-label-requires c κs = search needs
 
 returns-2 : tie.Need-returns-2 Inv-loop μ-loop
-returns-2 c = line-refused (labels-kept _ _ _) (c .before .before .before .before .before .loop .inv) (found _ _ _ (c .before .before .before .before .line-of .ensures) (not-false _ (c .before .before .before .if1 .left))) (c .before .judge-label .ensures) (c .if2 .taken)
+returns-2 c = line-refused (labels-kept _ _ _) (c .before .before .before .before .before .loop .inv) (found _ _ _ (c .before .before .before .before .line-by .ensures) (not-false _ (c .before .before .before .if1 .left))) (c .before .judge-label .ensures) (c .if2 .taken)
 
 label-of-requires : tie.Need-label-of-requires Inv-loop μ-loop
 label-of-requires c κs = search needs
@@ -52,17 +54,17 @@ one-label-requires c κs =
     (labels-count (g .list) (g .holds), has-room _ 32 _ _ _ (sym (c .before .before .judge-label .ensures) ∙ c .before .if2 .left))
 
 moved-requires : tie.Need-moved-requires Inv-loop μ-loop
-moved-requires c κs = let d = found _ _ _ (c .before .before .before .before .before .before .line-of .ensures) (not-false _ (c .before .before .before .before .before .if1 .left)) in omega (arith, d .taken .next, c .before .before .before .before .before .before .before .loop .inv .within .line)
+moved-requires c κs = let d = found _ _ _ (c .before .before .before .before .before .before .line-by .ensures) (not-false _ (c .before .before .before .before .before .if1 .left)) in omega (arith, d .taken .next, c .before .before .before .before .before .before .before .loop .inv .within .line)
 
 loop-less : tie.Need-loop-less Inv-loop μ-loop
 loop-less c =
-    let d = found _ _ _ (c .before .before .before .before .before .before .before .line-of .ensures) (not-false _ (c .before .before .before .before .before .before .if1 .left)) in
+    let d = found _ _ _ (c .before .before .before .before .before .before .before .line-by .ensures) (not-false _ (c .before .before .before .before .before .before .if1 .left)) in
     rw (c .moved .ensures) (omega (arith, moved-within (c .before .before .before .before .before .before .before .before .loop .inv .within) d .at, d .taken .next))
 
 loop-again : tie.Need-loop-again Inv-loop μ-loop
 loop-again c =
     rw (c .moved .ensures, c .before .one-label .ensures, c .before .before .label-of .ensures)
-    (line-on (labels-kept _ _ _) (c .before .before .before .before .before .before .before .before .loop .inv) (found _ _ _ (c .before .before .before .before .before .before .before .line-of .ensures) (not-false _ (c .before .before .before .before .before .before .if1 .left))) (c .before .before .before .before .judge-label .ensures) tt (c .before .before .before .if2 .left))
+    (line-on (labels-kept _ _ _) (c .before .before .before .before .before .before .before .before .loop .inv) (found _ _ _ (c .before .before .before .before .before .before .before .line-by .ensures) (not-false _ (c .before .before .before .before .before .before .if1 .left))) (c .before .before .before .before .judge-label .ensures) tt (c .before .before .before .if2 .left))
 
 pub read-labels-spec : {M : Type 1} → statement M
 read-labels-spec =
@@ -72,7 +74,7 @@ read-labels-spec =
     μ-loop
     no-labels-requires
     loop-holds
-    line-of-requires
+    line-by-requires
     returns
     judge-label-requires
     returns-2

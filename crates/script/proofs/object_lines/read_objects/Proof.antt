@@ -2,11 +2,12 @@
 -- Assumes nothing.
 use Prim.Native.Nat.{ℕ, _-_, _<_}
 use native.Mathlib.Omega.{arith}
-use mathlib.Core.Path.{subst}
+use mathlib.Core.Path.{refl, subst}
 use mathlib.Core.List.{[]}
 use lib.ListN.{length}
 use borrow.Author.Needs.{needs}
 use borrow.Author.Tests.{not-true, not-false}
+use Rattle.meaning.specs.Kinds.{rowOf}
 use Rattle.lines.proofs.Looks.{found, missing, moved-within}
 use Rattle.run_frames.proofs.Pools.{Has, has-none}
 use Rattle.script.specs.Sections.{Going}
@@ -17,10 +18,10 @@ use Rattle.script.proofs.object_lines.read_objects.Statement.{statement
 use Rattle.script.proofs.object_lines.read_objects.Tie as tie
 
 abbrev Inv-loop : tie.InvT-loop
-Inv-loop s nc pool₀ next₀ pool next = Going Has withObjects (HasClasses nc) 0x11 s next₀ [] next pool
+Inv-loop digits s nc pool₀ next₀ pool next = Going Has withObjects (HasClasses nc) 0x11 s next₀ [] next pool
 
 abbrev μ-loop : tie.MeasureT-loop
-μ-loop s nc pool₀ next₀ pool next = length s - next .at
+μ-loop digits s nc pool₀ next₀ pool next = length s - next .at
 
 no-objects-requires : tie.Need-no-objects-requires Inv-loop μ-loop
 no-objects-requires c κs = search needs
@@ -28,17 +29,18 @@ no-objects-requires c κs = search needs
 loop-holds : tie.Need-loop-holds Inv-loop μ-loop
 loop-holds c = going-start (rw (c .no-objects .ensures) has-none) (c .before .before .pre .0)
 
-line-of-requires : tie.Need-line-of-requires Inv-loop μ-loop
-line-of-requires c κs = search needs
+line-by-requires : tie.Need-line-by-requires Inv-loop μ-loop
+unfolding rowOf
+line-by-requires c κs = (c .before .before .before .pre .1 .0, refl)
 
 returns : tie.Need-returns Inv-loop μ-loop
-returns c = going-past (c .before .before .loop .inv) (missing _ _ _ (c .before .line-of .ensures) (not-true _ (c .if1 .taken)))
+returns c = going-past (c .before .before .loop .inv) (missing _ _ _ (c .before .line-by .ensures) (not-true _ (c .if1 .taken)))
 
 judge-object-requires : tie.Need-judge-object-requires Inv-loop μ-loop
 judge-object-requires c κs = search needs
 
 returns-2 : tie.Need-returns-2 Inv-loop μ-loop
-returns-2 c = line-refused (objects-kept _ (c .before .before .before .before .before .before .before .before .pre .1)) (c .before .before .before .before .before .loop .inv) (found _ _ _ (c .before .before .before .before .line-of .ensures) (not-false _ (c .before .before .before .if1 .left))) (c .before .judge-object .ensures) (c .if2 .taken)
+returns-2 c = line-refused (objects-kept _ (c .before .before .before .before .before .before .before .before .pre .1 .1)) (c .before .before .before .before .before .loop .inv) (found _ _ _ (c .before .before .before .before .line-by .ensures) (not-false _ (c .before .before .before .if1 .left))) (c .before .judge-object .ensures) (c .if2 .taken)
 
 element-copy-out-wide : tie.Need-element-copy-out-wide Inv-loop μ-loop
 element-copy-out-wide c = search needs
@@ -53,18 +55,18 @@ array-write-pool : tie.Need-array-write-pool Inv-loop μ-loop
 array-write-pool c = c .before .wide .ensures .1
 
 moved-requires : tie.Need-moved-requires Inv-loop μ-loop
-moved-requires c κs = let d = found _ _ _ (c .before .before .before .before .before .before .before .line-of .ensures) (not-false _ (c .before .before .before .before .before .before .if1 .left)) in omega (arith, d .taken .next, c .before .before .before .before .before .before .before .before .loop .inv .within .line)
+moved-requires c κs = let d = found _ _ _ (c .before .before .before .before .before .before .before .line-by .ensures) (not-false _ (c .before .before .before .before .before .before .if1 .left)) in omega (arith, d .taken .next, c .before .before .before .before .before .before .before .before .loop .inv .within .line)
 
 loop-less : tie.Need-loop-less Inv-loop μ-loop
 loop-less c =
-    let d = found _ _ _ (c .before .before .before .before .before .before .before .before .line-of .ensures) (not-false _ (c .before .before .before .before .before .before .before .if1 .left)) in
+    let d = found _ _ _ (c .before .before .before .before .before .before .before .before .line-by .ensures) (not-false _ (c .before .before .before .before .before .before .before .if1 .left)) in
     rw (c .moved .ensures) (omega (arith, moved-within (c .before .before .before .before .before .before .before .before .before .loop .inv .within) d .at, d .taken .next))
 
 loop-again : tie.Need-loop-again Inv-loop μ-loop
 loop-again c =
     let w = c .before .before .wide .ensures in
     rw (c .moved .ensures, w .0)
-    (line-on (objects-kept _ (c .before .before .before .before .before .before .before .before .before .before .before .before .pre .1)) (c .before .before .before .before .before .before .before .before .before .loop .inv) (found _ _ _ (c .before .before .before .before .before .before .before .before .line-of .ensures) (not-false _ (c .before .before .before .before .before .before .before .if1 .left))) (c .before .before .before .before .before .judge-object .ensures) (subst (λ (x : ℕ). x < 256) (w .0) (w .1)) (c .before .before .before .before .if2 .left))
+    (line-on (objects-kept _ (c .before .before .before .before .before .before .before .before .before .before .before .before .pre .1 .1)) (c .before .before .before .before .before .before .before .before .before .loop .inv) (found _ _ _ (c .before .before .before .before .before .before .before .before .line-by .ensures) (not-false _ (c .before .before .before .before .before .before .before .if1 .left))) (c .before .before .before .before .before .judge-object .ensures) (subst (λ (x : ℕ). x < 256) (w .0) (w .1)) (c .before .before .before .before .if2 .left))
 
 pub read-objects-spec : {M : Type 1} → statement M
 read-objects-spec =
@@ -74,7 +76,7 @@ read-objects-spec =
     μ-loop
     no-objects-requires
     loop-holds
-    line-of-requires
+    line-by-requires
     returns
     judge-object-requires
     returns-2

@@ -29,7 +29,8 @@ use Rattle.moves.specs.Below.{Supers}
 use Rattle.moves.proofs.Subtypes.{below-is}
 use Rattle.calls.specs.Called.{MethodAt, paramsIn, overridesBy, runsBy}
 
-any-default : {A : Type 0} (xs : List A) (n : ℕ) (d e : A) → n < length xs → getD xs n d ≡ getD xs n e
+-- within a list no default is asked for
+pub any-default : {A : Type 0} (xs : List A) (n : ℕ) (d e : A) → n < length xs → getD xs n d ≡ getD xs n e
 any-default [] n d e h = absurd (not-suc-le-zero h)
 any-default (x ∷ xs) zero d e h = refl
 any-default (x ∷ xs) (suc n) d e h = any-default xs n d e (le-of-suc-le-suc h)

@@ -3,7 +3,7 @@
 use Prim.Native.Nat.{ℕ, _+_, _-_, _≤_, _<_}
 use native.Mathlib.Nat.{le-refl}
 use native.Mathlib.Omega.{arith}
-use mathlib.Core.Path.{_≡_, refl, sym, ap, subst, _∙_}
+use mathlib.Core.Path.{_≡_, refl, sym, ap, _∙_}
 use mathlib.Core.List.{List, [], _++_, append-assoc, append-nil}
 use lib.ListN.{length, take, drop, length-append, length-drop, drop-of-length-le}
 use lib.Seq.{drop-at, drop-drop, length-take-le}
@@ -11,8 +11,8 @@ use borrow.Rule.Slice.PartAt.{part-to-end}
 use borrow.Rule.Slice.PartMut.{postOf, putMid, post-is}
 use borrow.Author.Tests.{le-leb, lt-leb}
 use Rattle.meaning.specs.Text.{linesOf}
-use Rattle.meaning.specs.Reading.{Answer, answer}
-use Rattle.runs.specs.Programs.{Told, onlyAnswer, Ran, tellOf, write, runOf, answerLine, cutAt, packagePart, runPart, print, ifShort, runOutput}
+use Rattle.meaning.specs.Reading.{answer}
+use Rattle.runs.specs.Programs.{Told, Ran, tellOf, write, runOf, answerLine, cutAt, packagePart, runPart, print, runOutput}
 use Rattle.runs.proofs.Written.{run-told}
 use Rattle.runner.specs.declared.RunAnswer.{RunAnswer}
 use Rattle.runner.specs.Answers.{ranAs}

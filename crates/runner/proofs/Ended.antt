@@ -3,21 +3,21 @@
 use Prim.Native.Nat.{ℕ, _≤_, _<_}
 use native.Mathlib.Omega.{arith}
 use mathlib.Core.Path.{_≡_, refl, sym, ap, subst, _∙_}
-use mathlib.Core.Bool.{Bool, true, false, cond}
+use mathlib.Core.Bool.{Bool}
 use mathlib.Core.List.{List, [], _∷_, _++_, map}
-use lib.Dec.{eqb, leb, ltb}
-use lib.ListN.{length, take, drop}
+use lib.Dec.{eqb}
+use lib.ListN.{length, drop}
 use borrow.Author.Tests.{lt-ltb, le-ltb, eq-eqb, ne-eqb}
 use Rattle.meaning.specs.Tables.{Package}
 use Rattle.meaning.specs.Good.{Good}
 use Rattle.meaning.specs.Reading.{Answer, answer, Reading, isRead, isRefused, readText}
 use Rattle.meaning.specs.Check.{verdict}
 use Rattle.runs.specs.Machine as M
-use Rattle.runs.specs.Run.{Placed, Outcome, runFrom}
+use Rattle.runs.specs.Run.{Outcome, runFrom}
 use Rattle.runs.specs.Script.{Script, ScriptReading, isScript, isNone, readScript}
 use Rattle.runs.specs.Admitted.{Within}
 use Rattle.runs.specs.Holdings.{ofLabel, ofSaved, ofLink, holdings, sorted, shown, textOf, holdingsText}
-use Rattle.runs.specs.Programs.{Told, onlyAnswer, ofOutcome, ofScript, ifAccepted, ofReading, tellOf, Ran, write, ifRoom, runOf}
+use Rattle.runs.specs.Programs.{ofOutcome, ofScript, ifAccepted, ofReading, tellOf, write, ifRoom, runOf}
 use Rattle.runs.specs.Reach.{Confined}
 use Rattle.runs.proofs.Typing.{within-run}
 use Rattle.runs.proofs.Admits.{script-starts}

@@ -2,12 +2,12 @@
 -- Assumes nothing.
 use Prim.Native.Nat.{ℕ, _≤_}
 use native.Mathlib.Omega.{arith}
-use mathlib.Core.Path.{_≡_, sym, ap, _∙_}
+use mathlib.Core.Path.{_≡_, ap, _∙_}
 use mathlib.Core.List.{List, map}
 use lib.ListN.{length, take, length-map}
 use Rattle.tables.specs.declared.Tables.{Tables}
 use Rattle.tables.specs.View.{classesView, fieldsView, methodsView, effectsView, view}
-use Rattle.tables.specs.Pack.{packMethods, pack}
+use Rattle.tables.specs.Pack.{pack}
 use Rattle.tables.specs.Held.{Held}
 use Rattle.tables.proofs.Pack.{pad-length}
 use Rattle.tables.proofs.Views as Views

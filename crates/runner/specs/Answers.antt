@@ -4,7 +4,7 @@ use Prim.Native.Nat.{ℕ}
 use mathlib.Core.Path.{_≡_}
 use mathlib.Core.List.{List}
 use Rattle.meaning.specs.Reading.{Answer}
-use Rattle.runs.specs.Programs.{Told, Ran, write}
+use Rattle.runs.specs.Programs.{Ran}
 use Rattle.runner.specs.declared.RunAnswer.{RunAnswer}
 
 abbrev pub answerWith : Answer → ℕ → RunAnswer

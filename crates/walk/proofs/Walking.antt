@@ -4,19 +4,19 @@
 use Prim.Native.Nat.{ℕ, suc, _+_, _≤_, _<_}
 use native.Mathlib.Numerals.{add-one}
 use native.Mathlib.Omega.{arith}
-use mathlib.Core.Path.{_≡_, refl, sym, ap, subst, _∙_}
-use mathlib.Core.List.{List, _∷_, map, map-id}
+use mathlib.Core.Path.{_≡_, refl, sym, ap, _∙_}
+use mathlib.Core.List.{List, map}
 use lib.ListN.{length, take, drop, getD, length-map, drop-of-length-le, List·getD-map}
 use lib.Seq.{drop-cons, getD-take}
 use Rattle.meaning.specs.Lists.{In}
 use Rattle.meaning.specs.Tables.{Package}
-use Rattle.meaning.specs.Reading.{answer, Took, takes, refuses}
+use Rattle.meaning.specs.Reading.{Took, takes, refuses}
 use Rattle.meaning.proofs.Lists.{getD-in}
 use Rattle.meaning.proofs.Trust.{good-rising}
 use Rattle.runs.specs.Machine as M
-use Rattle.runs.specs.Machine.{FirstMissing, return}
+use Rattle.runs.specs.Machine.{FirstMissing}
 use Rattle.runs.specs.Steps.{step}
-use Rattle.runs.specs.Run.{Placed, placed, outcome, runNext, runFrom}
+use Rattle.runs.specs.Run.{Placed, runNext, runFrom}
 use Rattle.runs.specs.Admitted.{Typed, Within}
 use Rattle.runs.proofs.Steps.{step-goes, step-lacks}
 use Rattle.runs.proofs.Typing.{typed-step, within-step}
@@ -24,8 +24,7 @@ use Rattle.tables.specs.declared.Methods.{Methods}
 use Rattle.tables.specs.declared.Method.{Method}
 use Rattle.tables.specs.View.{zeroMethod}
 use Rattle.tables.specs.Pack.{packMethods, packMethod}
-use Rattle.tables.proofs.Pack.{pad-at, pad-length}
-use Rattle.tables.proofs.Views.{getD-map}
+use Rattle.tables.proofs.Pack.{pad-length}
 use Rattle.tables.proofs.Access.{view-length}
 use Rattle.state.specs.declared.State.{State}
 use Rattle.state.specs.declared.Done.{Done}
@@ -37,7 +36,7 @@ use Rattle.steps.specs.declared.Step.{Step}
 use Rattle.steps.specs.declared.Steps.{Steps}
 use Rattle.steps.specs.View.{stepView, stepsView, zeroStep}
 use Rattle.calls.specs.Called.{MethodAt}
-use Rattle.walk.specs.declared.Outcome.{Outcome}
+use Rattle.calls.proofs.Rows.{any-default}
 use Rattle.walk.specs.Walk.{Walk, outcomeOf}
 
 -- a refusal has a number
@@ -46,10 +45,6 @@ missing-number (FirstMissing.frame h) e = omega arith
 missing-number (FirstMissing.effect n) e = omega arith
 missing-number (FirstMissing.premise h p n) e = omega arith
 missing-number (FirstMissing.room m n) e = omega arith
-
--- within a list no default is asked for
-same-within : {A : Type 0} (xs : List A) (i : ℕ) (d e : A) → i < length xs → getD xs i d ≡ getD xs i e
-same-within xs i d e h = sym (ap (λ l. getD l i d) (map-id xs)) ∙ getD-map (λ x. x) xs i d e h
 
 module _ {rows exact alike pairs : List ℕ} {methods : Methods} {start : State} {steps : Steps} (w : Walk rows exact alike pairs methods start steps) where
   abbrev P : Package
@@ -75,7 +70,7 @@ module _ {rows exact alike pairs : List ℕ} {methods : Methods} {start : State}
   unfolding stepsView
   step-at i z h =
       let m : i < steps .n = omega (arith, count) in
-      ap stepView (same-within (steps .at) i z zeroStep (omega (arith, w .begun .size, w .begun .few)))
+      ap stepView (any-default (steps .at) i z zeroStep (omega (arith, w .begun .size, w .begun .few)))
       ∙ sym (List·getD-map stepView (take (steps .n) (steps .at)) i zeroStep ∙ ap stepView (getD-take (steps .n) (steps .at) i zeroStep m))
 
   -- ---- after i steps
@@ -156,7 +151,7 @@ module _ {rows exact alike pairs : List ℕ} {methods : Methods} {start : State}
       record {
         good = w .good;
         is =
-            same-within (methods .at) x z zeroMethod (omega (arith, methods-long, h .1))
+            any-default (methods .at) x z zeroMethod (omega (arith, methods-long, h .1))
             ∙ ap (λ (m : Methods). getD (m .at) x zeroMethod) (w .methods-are)
             ∙ ap (λ (i : ℕ). getD (packMethods (P .methods) .at) i zeroMethod) (h .0);
       }

@@ -1,6 +1,6 @@
 -- `run_output` meets its contract: a buffer without room stays; a long input is 1; otherwise the run writes behind the answer's line.
 -- Assumes nothing.
-use mathlib.Core.Path.{_≡_, refl, sym, subst}
+use mathlib.Core.Path.{refl, sym, subst}
 use Prim.Native.Nat.{_≤_}
 use lib.ListN.{length}
 use lib.Seq.{length-take-le}

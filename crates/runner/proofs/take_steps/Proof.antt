@@ -2,7 +2,6 @@
 -- Assumes nothing.
 use native.Mathlib.Omega.{arith}
 use lib.ListN.{length-take}
-use borrow.Author.Needs.{needs}
 use Rattle.runner.proofs.Prepared.{few-fields, few-effects, few-exact, few-alike, walks}
 use Rattle.runner.proofs.take_steps.Statement.{statement}
 use Rattle.runner.proofs.take_steps.Tie as tie

@@ -1,5 +1,6 @@
 -- `pair_tests::breaks_24` meets its contract. One test after the other.
 -- Assumes nothing.
+use native.Mathlib.Omega.{arith}
 use borrow.Author.Tests.{eq-eqb, ne-eqb}
 use Rattle.pair_tests.proofs.Steps.{missed, passed}
 use Rattle.pair_tests.specs.Tests.{by24}
@@ -19,7 +20,7 @@ unfolding by24
 returns-2 c = rw (passed (c .before .before .before .overrides .ensures) (c .before .before .if1 .left), eq-eqb _ _ (c .if2 .taken))
 
 keeps-from-requires : tie.Need-keeps-from-requires
-keeps-from-requires c κs = (((c .before .before .before .before .pre .1 .1 .class, c .before .before .before .before .pre .1 .1 .result (c .if2 .left)), (c .before .before .before .before .pre .1 .1 .class, c .before .before .before .before .pre .1 .0 .class)), c .before .before .before .before .pre .0)
+keeps-from-requires c κs = (((omega (arith, c .before .before .before .before .pre .1 .0 .class, c .before .before .before .before .pre .1 .1 .class), c .before .before .before .before .pre .1 .1 .result (c .if2 .left)), (c .before .before .before .before .pre .1 .1 .class, c .before .before .before .before .pre .1 .0 .class)), c .before .before .before .before .pre .0)
 
 returns-3 : tie.Need-returns-3
 unfolding by24

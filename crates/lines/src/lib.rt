@@ -43,28 +43,8 @@ fn no_line(at: usize) -> Cut
     }
 }
 
-// The next line, where none is refused yet, it keeps the line rule, and its kind is of this section.
-pub fn line_of(s: &[u8], c: Cursor, section: u8) -> Cut
-    ensures { λ r. ⌜ r ≡ lineOf (now (s .entry)) c section ⌝ }
-{
-    let at = c.at;
-    if c.no != 0 {
-        return no_line(at);
-    }
-    let cut = text::scan(s, at);
-    let ok = cut.ok;
-    if !ok {
-        return cut;
-    }
-    let f = cut.frame;
-    let kind = text::kind_of(f.b[0]);
-    if kind.section != section {
-        return no_line(at);
-    }
-    cut
-}
-
-// The same by the values of the digits; of a section that has the number of a kind, which most of its lines are of.
+// The next line, where none is refused yet, it keeps the line rule, and its kind is of this section. It is read by the values of the digits; and of
+// a section that has the number of a kind, which most of its lines are of.
 pub fn line_by(digits: &[u8; 256], s: &[u8], c: Cursor, section: u8) -> Cut
     requires { ⌜ now digits ≡ digitTable ⌝ }
     requires { ⌜ rowOf section .section ≡ section ⌝ }

@@ -3,7 +3,7 @@ ghost use mathlib.Core.Path.{_≡_};
 ghost use Prim.Native.Nat.{_+_, _/_, _%_, _≤_, _<_};
 ghost use lib.ListN.{length, set};
 ghost use Rattle.meaning.specs.Text.{hexDigit};
-ghost use Rattle.meaning.specs.Kinds.{rowOf, follows};
+ghost use Rattle.meaning.specs.Kinds.{rowOf};
 ghost use Rattle.text.specs.Fits.{kindIn, fitsFrame};
 ghost use Rattle.text.specs.Scan.{noCut, cutAt, closedAt};
 ghost use Rattle.text.specs.Values.{digitTable, byteAt};
@@ -74,22 +74,6 @@ pub fn fits(f: Frame) -> bool
         return n == size;
     }
     n == size + wide(f.b[at])
-}
-
-// Whether a frame of section s may follow one of section b, in a text that opens with section o and ends with section e.
-pub fn follows(o: u8, e: u8, b: u8, s: u8) -> bool
-    ensures { λ r. ⌜ r ≡ follows o e b s ⌝ }
-{
-    if s <= o {
-        return false;
-    }
-    if e < s {
-        return false;
-    }
-    if s < b {
-        return false;
-    }
-    b < e
 }
 
 // The value of each character as a digit, 16 for a character that is none. It is made once for a text.

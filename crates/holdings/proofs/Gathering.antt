@@ -8,7 +8,7 @@ use mathlib.Core.List.{List, [], _++_, map, append-assoc, append-nil, map-append
 use lib.ListN.{take, getD}
 use Rattle.meaning.specs.Lists.{In}
 use Rattle.runs.specs.Holdings.{Holding, key}
-use Rattle.runs.proofs.Sorted.{Bytes}
+use Rattle.runs.specs.Holdings.{Bytes}
 use Rattle.state.specs.View.{noSaved}
 use Rattle.state.specs.declared.Label.{Label}
 use Rattle.state.specs.declared.Saved.{Saved}

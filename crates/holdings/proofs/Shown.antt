@@ -11,7 +11,8 @@ use borrow.Author.Tests.{ltb-false}
 use Rattle.meaning.specs.Lists.{In}
 use Rattle.meaning.specs.Tables.{Package, Class, noClass, home, ownerOf}
 use Rattle.runs.specs.Holdings.{Holding, holding, ofLabel, ofLink, ofSaved, holdings, key, sorted, textOf}
-use Rattle.runs.proofs.Sorted.{Bytes, KeyRising, in-sorted, sorted-in, sorted-keys}
+use Rattle.runs.proofs.Sorted.{KeyRising, in-sorted, sorted-in, sorted-keys}
+use Rattle.runs.specs.Holdings.{Bytes}
 use Rattle.state.specs.View.{noSaved, labelView, linkView, frameView, savedView, view}
 use Rattle.state.specs.declared.Label.{Label}
 use Rattle.state.specs.declared.Link.{Link}

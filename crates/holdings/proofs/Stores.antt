@@ -12,7 +12,7 @@ use lib.Seq.{take-suc-set, sets}
 use Rattle.meaning.specs.Reading.{Answer}
 use Rattle.runs.specs.Holdings.{Holding, key, hex, lineOf}
 use Rattle.runs.specs.Programs.{answerLine}
-use Rattle.runs.proofs.Sorted.{Bytes}
+use Rattle.runs.specs.Holdings.{Bytes}
 use Rattle.holdings.specs.Held.{Adds}
 
 module _ (at : ℕ) (keys₀ : List ℕ) where

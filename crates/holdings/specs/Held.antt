@@ -9,7 +9,7 @@ use lib.ListN.{length, take, drop, getD}
 use Rattle.meaning.specs.Lists.{In}
 use Rattle.meaning.specs.Tables.{Package, home, ownerOf}
 use Rattle.runs.specs.Holdings.{Holding, holding, key}
-use Rattle.runs.proofs.Sorted.{Bytes}
+use Rattle.runs.specs.Holdings.{Bytes}
 use Rattle.state.specs.View.{noSaved}
 use Rattle.state.specs.declared.Label.{Label}
 use Rattle.state.specs.declared.Link.{Link}

@@ -8,7 +8,7 @@ ghost use lib.Seq.{sets};
 ghost use Rattle.meaning.specs.Lists.{In};
 ghost use Rattle.meaning.specs.Tables.{Package};
 ghost use Rattle.runs.specs.Holdings.{holding, key, lineOf, textOf, holdingsText};
-ghost use Rattle.runs.proofs.Sorted.{Bytes};
+ghost use Rattle.runs.specs.Holdings.{Bytes};
 ghost use Rattle.state.specs.View.{view};
 ghost use Rattle.state.specs.Fine.{Fine};
 ghost use Rattle.holdings.specs.Held.{Looked, homeIn, runsIn, labelled, linked, framesHeld, Adds};

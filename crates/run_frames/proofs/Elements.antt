@@ -34,7 +34,8 @@ use Rattle.run_frames.specs.declared.step.Named.{Named}
 use Rattle.run_frames.specs.Judging.{among, judgeObject, static, argumentsIn, namedIn, judgeStep}
 use Rattle.run_frames.specs.Elements.{staticLinkIn, staticLinkOf, objectLinkIn, objectLinkOf, labelIn, labelOf, placedIn}
 use Rattle.run_frames.proofs.Asked.{passes}
-use Rattle.run_frames.proofs.Pools.{Has, among-is, has-new}
+use Rattle.run_frames.proofs.Pools.{among-is, has-new}
+use Rattle.run_frames.specs.Pools.{Has}
 use Rattle.run_frames.proofs.Named.{arguments-kept}
 
 module _ (f : List ℕ) where

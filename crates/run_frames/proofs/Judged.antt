@@ -27,7 +27,8 @@ use Rattle.frames.proofs.Judged.{judged, passed, asked, needs, conj, joined}
 use Rattle.moves.specs.Below.{Supers}
 use Rattle.run_frames.specs.Judging.{judgeEntry, judgeBy, among, isAmong, fieldAmong, judgeObject, judgeStaticLink, judgeObjectLink, judgeLabel}
 use Rattle.run_frames.specs.Elements.{staticLinkOf, objectLinkOf, labelOf}
-use Rattle.run_frames.proofs.Pools.{Has, among-is, is-among-is}
+use Rattle.run_frames.proofs.Pools.{among-is, is-among-is}
+use Rattle.run_frames.specs.Pools.{Has}
 
 -- the reader behind line 1
 abbrev pub entered : ℕ → Reader

@@ -19,16 +19,12 @@ use Rattle.runs.proofs.Tests.{decides-inPool}
 use Rattle.runs.proofs.Sets.{joins-each, joins-last}
 use Rattle.bits.specs.Rows.{listed}
 use Rattle.state.specs.View.{poolFrom, classIn, packPool}
-use Rattle.state.proofs.Pool.{Plain, class-in, pool-has, pool-is, plain-listed, pool-class, pack-at, pack-long, pool-more}
+use Rattle.state.proofs.Pool.{class-in, pool-has, pool-is, plain-listed, pool-class, pack-at, pack-long, pool-more}
+use Rattle.state.specs.Pools.{Plain}
 use Rattle.moves.specs.Below.{Supers}
 use Rattle.moves.proofs.Subtypes.{object-below}
 use Rattle.run_frames.specs.Judging.{among, isAmong}
-
--- the array has the objects os: each reference is once, and none of them or of their classes is too large for it
-pub record Has (os : List Object) (pool : List ℕ) : Type 0 where
-  pub packed : pool ≡ packPool os
-  pub plain : Plain os
-  pub small : (o : Object) → In o os → o .ref < 256
+use Rattle.run_frames.specs.Pools.{Has}
 
 module _ {os : List Object} {pool : List ℕ} (h : Has os pool) where
   same-class : (r : ℕ) → classIn (poolFrom 0 pool) r ≡ classIn os r

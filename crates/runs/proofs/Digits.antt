@@ -12,7 +12,7 @@ use Rattle.meaning.specs.Text.{isDigit, digit, before, decode}
 use Rattle.meaning.specs.Reading.{Answer}
 use Rattle.runs.specs.Holdings.{Holding, hexDigit, hex, lineOf}
 use Rattle.runs.specs.Programs.{hex4, answerLine}
-use Rattle.runs.proofs.Sorted.{Bytes}
+use Rattle.runs.specs.Holdings.{Bytes}
 
 -- a digit is one, and means its number
 digit-is : (n : ℕ) → n < 16 → (isDigit (hexDigit n) ≡ true) × (digit (hexDigit n) ≡ n)

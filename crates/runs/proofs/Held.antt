@@ -16,7 +16,8 @@ use Rattle.runs.specs.Machine.{Label, Saved, State, label}
 use Rattle.runs.specs.Admitted.{IsA, Typed, Within}
 use Rattle.runs.specs.Holdings.{Holding, holding, Holds, ofLabel, ofLink, ofSaved, holdings, sorted, shown, lineOf, textOf, holdingsText, Rising}
 use Rattle.runs.proofs.Typing.{link-target}
-use Rattle.runs.proofs.Sorted.{Bytes, in-sorted, sorted-in, length-sorted, sorted-rising}
+use Rattle.runs.proofs.Sorted.{in-sorted, sorted-in, length-sorted, sorted-rising}
+use Rattle.runs.specs.Holdings.{Bytes}
 
 -- ---- the list of holdings
 

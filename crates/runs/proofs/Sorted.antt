@@ -11,7 +11,7 @@ use lib.ListN.{length}
 use borrow.Author.Tests.{ltb-true, ltb-false, leb-true, leb-false, eqb-true, eqb-false}
 use Rattle.meaning.specs.Lists.{In}
 use Rattle.meaning.proofs.Bools.{decided, decides-lt}
-use Rattle.runs.specs.Holdings.{Holding, holding, key, put, insert, sorted, hexDigit, hex, lineOf, Before, here, later, Rising}
+use Rattle.runs.specs.Holdings.{Holding, holding, key, put, insert, sorted, hexDigit, hex, lineOf, Before, here, later, Rising, Bytes}
 use Rattle.runs.proofs.Sets.{joins-each, joins-cons}
 
 -- ---- what is in a sorted list
@@ -98,11 +98,6 @@ length-insert h (x ∷ xs) = on (puts h x xs (insert h xs)) (length-insert h xs)
     on (Puts.front l) k = omega arith
 
 -- ---- holdings of bytes
-
-pub record Bytes (h : Holding) : Type 0 where
-  pub domain : h .domain < 256
-  pub ref : h .ref < 256
-  pub type : h .type < 256
 
 key-one : {x y : Holding} → Bytes x → Bytes y → key x ≡ key y → x ≡ y
 unfolding key

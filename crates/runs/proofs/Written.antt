@@ -27,7 +27,8 @@ use Rattle.runs.specs.Programs.{Told, onlyAnswer, ofOutcome, ofScript, i
 use Rattle.runs.specs.Reach.{Allowed, Accepted, RunConfined}
 use Rattle.runs.proofs.Typing.{typed-run, within-run}
 use Rattle.runs.proofs.Admits.{script-starts}
-use Rattle.runs.proofs.Sorted.{Bytes, in-sorted, line-one}
+use Rattle.runs.proofs.Sorted.{in-sorted, line-one}
+use Rattle.runs.specs.Holdings.{Bytes}
 use Rattle.runs.proofs.Held.{holdings-bytes, holdings-hold, shown-holds, shown-rising, length-text, text-fits}
 use Rattle.runs.proofs.Unbroken.{accepted-is}
 use Rattle.runs.proofs.Reached.{reached}

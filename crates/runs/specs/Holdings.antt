@@ -18,6 +18,12 @@ pub record Holding : Type 0 where
 abbrev pub holding : ℕ → ℕ → ℕ → Holding
 holding d r c = record { domain = d; ref = r; type = c }
 
+-- whose numbers are bytes, so that a line holds them
+pub record Bytes (h : Holding) : Type 0 where
+  pub domain : h .domain < 256
+  pub ref : h .ref < 256
+  pub type : h .type < 256
+
 -- "a frame or saved frame whose running class lies in dd holds r labelled cc, or a link whose declaring class lies in dd has target r and type cc"
 pub data Holds (P : Package) (s : State) (d r c : ℕ) : Type 0 where
   frame : home P (ownerOf P (s .method)) ≡ d → In (label r c) (s .labels) → Holds P s d r c

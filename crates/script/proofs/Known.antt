@@ -26,7 +26,7 @@ use Rattle.run_frames.specs.declared.step.Named.{Named}
 use Rattle.run_frames.specs.Judging.{judgeObject, judgeStaticLink, judgeObjectLink, judgeLabel, judgeStep}
 use Rattle.run_frames.specs.Elements.{staticLinkIn, staticLinkOf, objectLinkIn, objectLinkOf, labelIn, labelOf, placedIn}
 use Rattle.run_frames.proofs.Asked.{judged, judged-taken, judged-refused, has-room}
-use Rattle.run_frames.proofs.Pools.{Has}
+use Rattle.run_frames.specs.Pools.{Has}
 use Rattle.run_frames.proofs.Judged.{object-judged, static-link-judged, object-link-judged, label-judged}
 use Rattle.run_frames.proofs.Named as N
 use Rattle.run_frames.proofs.Named.{Names, names-at, step-judged}

@@ -22,7 +22,7 @@ use Rattle.tables.specs.Held.{Held}
 use Rattle.steps.specs.declared.Steps.{Steps}
 use Rattle.steps.specs.Pack.{packSteps}
 use Rattle.moves.specs.Below.{Supers}
-use Rattle.run_frames.proofs.Pools.{Has}
+use Rattle.run_frames.specs.Pools.{Has}
 use Rattle.lines.specs.declared.Cursor.{Cursor}
 use Rattle.script.specs.declared.entry.Entry.{Entry}
 use Rattle.script.specs.declared.link_lines.LinkLines.{LinkLines}

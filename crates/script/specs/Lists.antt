@@ -29,7 +29,7 @@ use Rattle.steps.specs.View.{zeroStep}
 use Rattle.steps.specs.Pack.{packSteps}
 use Rattle.moves.specs.Below.{Supers}
 use Rattle.run_frames.specs.declared.step.Named.{Named}
-use Rattle.run_frames.proofs.Pools.{Has}
+use Rattle.run_frames.specs.Pools.{Has}
 use Rattle.script.specs.declared.link_lines.LinkLines.{LinkLines}
 use Rattle.script.specs.declared.label_lines.LabelLines.{LabelLines}
 

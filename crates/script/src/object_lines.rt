@@ -6,7 +6,7 @@ ghost use lib.ListN.{replicate};
 ghost use mathlib.Core.List.{[]};
 ghost use Rattle.text.specs.Values.{digitTable};
 ghost use Rattle.lines.specs.Cursors.{Within};
-ghost use Rattle.run_frames.proofs.Pools.{Has};
+ghost use Rattle.run_frames.specs.Pools.{Has};
 ghost use Rattle.script.specs.Sections.{Section};
 ghost use Rattle.script.specs.Lists.{withObjects, HasClasses};
 

@@ -23,7 +23,8 @@ use Rattle.bits.specs.Rows.{listed}
 use Rattle.state.specs.declared.State.{State}
 use Rattle.state.specs.View.{orFF, poolFrom, classIn, packPool, view, pack}
 use Rattle.state.specs.Fine.{done, doneOf}
-use Rattle.state.proofs.Pool.{Plain, class-in, class-new, class-other, pool-has, pool-is, plain-listed, pool-class, pack-at, pack-long, new-object}
+use Rattle.state.proofs.Pool.{class-in, class-new, class-other, pool-has, pool-is, plain-listed, pool-class, pack-at, pack-long, new-object}
+use Rattle.state.specs.Pools.{Plain}
 use Rattle.state.proofs.Packed.{tidySaved, view-pack}
 
 -- ---- pools with the same objects

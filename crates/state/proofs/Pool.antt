@@ -20,13 +20,9 @@ use Rattle.runs.specs.Steps.{isNumbered, inPool, isObjectBelow, isA}
 use Rattle.runs.proofs.Tests.{decides-object, decides-in, decides-sameObject, decides-inPool}
 use Rattle.bits.proofs.RowLaws.{length-listed, getD-listed, listed-of}
 use Rattle.state.specs.View.{poolFrom, classIn, packPool}
+use Rattle.state.specs.Pools.{Plain}
 
 -- ---- the class of a reference
-
--- each reference is the number of one object, and no class is FF
-pub record Plain (os : List Object) : Type 0 where
-  pub once : (o o′ : Object) → In o os → In o′ os → o .ref ≡ o′ .ref → o ≡ o′
-  pub real : (o : Object) → In o os → o .class ≡ 0xFF → ⊥
 
 plain-tail : {o : Object} {os : List Object} → Plain (o ∷ os) → Plain os
 plain-tail p = record { once = λ x y m n. p .once x y (List·Memᴰ·tail m) (List·Memᴰ·tail n); real = λ x m. p .real x (List·Memᴰ·tail m) }

@@ -1,2 +1,3 @@
 pub mod View
 pub mod Fine
+pub mod Pools

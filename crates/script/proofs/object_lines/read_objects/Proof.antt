@@ -9,7 +9,8 @@ use borrow.Author.Needs.{needs}
 use borrow.Author.Tests.{not-true, not-false}
 use Rattle.meaning.specs.Kinds.{rowOf}
 use Rattle.lines.proofs.Looks.{found, missing, moved-within}
-use Rattle.run_frames.proofs.Pools.{Has, has-none}
+use Rattle.run_frames.proofs.Pools.{has-none}
+use Rattle.run_frames.specs.Pools.{Has}
 use Rattle.script.specs.Sections.{Going}
 use Rattle.script.specs.Lists.{withObjects, HasClasses}
 use Rattle.script.proofs.Loops.{going-start, going-past, line-refused, line-on}

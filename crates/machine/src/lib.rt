@@ -27,36 +27,19 @@ pub fn step(
     ensures { λ d. ⌜ ((P : Package) → Equipped P (now (rows .entry)) (now (exact .entry)) (now (alike .entry)) (now (pairs .entry)) → Named P k called runs → d ≡ doneOf s (step P (view s) (stepView k .step))) ⌝ }
     ensures { λ d. ⌜ Fine (d .state) ⌝ }
 {
-    let kind = k.b[0];
     let x = k.b[1];
     let y = k.b[2];
     let z = k.b[3];
-    if kind == 0x20 {
-        return moves::widen(s, rows, x, y);
+    match k.b[0] {
+        0x20 => moves::widen(s, rows, x, y),
+        0x21 => moves::new(s, exact, x, y),
+        0x22 => moves::checkcast(s, exact, rows, x, y),
+        0x23 => moves::getstatic(s, alike, pairs, x, y),
+        0x24 => moves::putstatic(s, alike, pairs, x, y),
+        0x25 => moves::getfield(s, alike, pairs, rows, x, y, z),
+        0x26 => moves::putfield(s, alike, pairs, rows, x, y, z),
+        0x27 => calls::invokestatic(s, exact, k, called),
+        0x28 => calls::invokemethod(s, exact, rows, k, called, runs),
+        _ => calls::back(s, x),
     }
-    if kind == 0x21 {
-        return moves::new(s, exact, x, y);
-    }
-    if kind == 0x22 {
-        return moves::checkcast(s, exact, rows, x, y);
-    }
-    if kind == 0x23 {
-        return moves::getstatic(s, alike, pairs, x, y);
-    }
-    if kind == 0x24 {
-        return moves::putstatic(s, alike, pairs, x, y);
-    }
-    if kind == 0x25 {
-        return moves::getfield(s, alike, pairs, rows, x, y, z);
-    }
-    if kind == 0x26 {
-        return moves::putfield(s, alike, pairs, rows, x, y, z);
-    }
-    if kind == 0x27 {
-        return calls::invokestatic(s, exact, k, called);
-    }
-    if kind == 0x28 {
-        return calls::invokemethod(s, exact, rows, k, called, runs);
-    }
-    calls::back(s, x)
 }

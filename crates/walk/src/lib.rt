@@ -35,19 +35,17 @@ pub fn walk(
     requires { ⌜ Walk (now rows) (now exact) (now alike) (now pairs) methods start steps ⌝ }
     ensures { λ r. ⌜ ((w : Walk (now (rows .entry)) (now (exact .entry)) (now (alike .entry)) (now (pairs .entry)) methods start steps) → r ≡ outcomeOf (runFrom (w .loaded) (w .begun .state) 0 (stepsView steps))) ⌝ }
 {
-    let n = steps.n;
     let mut s = start;
     let mut i = 0;
-    while i < n {
+    while i < steps.n {
         let k = steps.at[i];
         let called = methods.at[wide(k.b[1])];
         let runs = methods.at[wide(k.b[2])];
         let d = machine::step(s, rows, exact, alike, pairs, k, called, runs);
-        let code = d.code;
-        if code != 0 {
+        if d.code != 0 {
             let last = d.state;
             return Outcome {
-                number: code,
+                number: d.code,
                 line: k.line,
                 taken: i as u16,
                 state: last,

@@ -11,10 +11,10 @@ use Rattle.walk.proofs.walk.Statement.{statement}
 use Rattle.walk.proofs.walk.Tie as tie
 
 abbrev Inv-loop : tie.InvT-loop
-Inv-loop rows exact alike pairs steps methods n s₀ i₀ s i = (i ≤ n) × ((w : Walk rows exact alike pairs methods s₀ steps) → At w i s)
+Inv-loop rows exact alike pairs steps methods s₀ i₀ s i = (i ≤ steps .n) × ((w : Walk rows exact alike pairs methods s₀ steps) → At w i s)
 
 abbrev μ-loop : tie.MeasureT-loop
-μ-loop rows exact alike pairs steps methods n s₀ i₀ s i = n - i
+μ-loop rows exact alike pairs steps methods s₀ i₀ s i = steps .n - i
 
 -- the steps lie within their array
 fits : (c : tie.Start Inv-loop μ-loop) → c .args .t2 .n ≤ 1024
@@ -59,14 +59,14 @@ step-requires c κs =
     let a = c .before .before .before .before .before .before .before .before .loop .inv .1 w in
     (at-fine w a, (w .loaded, (w .arrays, record { first = row-at w _ _ _ (c .before .before .before .before .wide .ensures); second = row-at w _ _ _ (c .before .wide2 .ensures) })))
 
-cast-t37 : tie.Need-cast-t37 Inv-loop μ-loop
-cast-t37 c = omega (arith, fits (c .before .before .before .before .before .before .before .before .before .before .before .before .before .before))
+cast-t35 : tie.Need-cast-t35 Inv-loop μ-loop
+cast-t35 c = omega (arith, fits (c .before .before .before .before .before .before .before .before .before .before .before .before .before .before .before))
 
 returns : tie.Need-returns Inv-loop μ-loop
 returns c = λ w.
-    let n : c .before .before .before .before .before .before .before .before .before .before .before .loop .i < length (stepsView (c .before .before .before .before .before .before .before .before .before .before .before .before .before .before .args .t2)) = omega (arith, count w, c .before .before .before .before .before .before .before .before .before .before .loop-test .taken) in
-    at-refused w (c .before .before .before .before .before .before .before .before .before .before .before .loop .i) (c .before .before .before .before .before .before .before .before .before .before .before .loop .s) _ (c .before .before .step .result) n (c .before .before .before .before .before .before .before .before .before .before .before .loop .inv .1 w) (step-at w _ _ n)
-    (c .before .before .step .ensures .0 (w .loaded) (w .arrays) (record { first = row-at w _ _ _ (c .before .before .before .before .before .before .before .wide .ensures); second = row-at w _ _ _ (c .before .before .before .before .wide2 .ensures) })) (c .before .if1 .taken)
+    let n : c .before .before .before .before .before .before .before .before .before .before .before .before .loop .i < length (stepsView (c .before .before .before .before .before .before .before .before .before .before .before .before .before .before .before .args .t2)) = omega (arith, count w, c .before .before .before .before .before .before .before .before .before .before .before .loop-test .taken) in
+    at-refused w (c .before .before .before .before .before .before .before .before .before .before .before .before .loop .i) (c .before .before .before .before .before .before .before .before .before .before .before .before .loop .s) _ (c .before .before .before .step .result) n (c .before .before .before .before .before .before .before .before .before .before .before .before .loop .inv .1 w) (step-at w _ _ n)
+    (c .before .before .before .step .ensures .0 (w .loaded) (w .arrays) (record { first = row-at w _ _ _ (c .before .before .before .before .before .before .before .before .wide .ensures); second = row-at w _ _ _ (c .before .before .before .before .before .wide2 .ensures) })) (c .before .if1 .taken)
 
 add-i : tie.Need-add-i Inv-loop μ-loop
 add-i c = search needs
@@ -78,13 +78,13 @@ loop-again : tie.Need-loop-again Inv-loop μ-loop
 loop-again c = (
   omega arith,
   λ w.
-      let n : c .before .before .before .before .before .before .before .before .before .before .before .loop .i < length (stepsView (c .before .before .before .before .before .before .before .before .before .before .before .before .before .before .args .t2)) = omega (arith, count w, c .before .before .before .before .before .before .before .before .before .before .loop-test .taken) in
-      at-next w (c .before .before .before .before .before .before .before .before .before .before .before .loop .i) (c .before .before .before .before .before .before .before .before .before .before .before .loop .s) _ (c .before .before .step .result) n (c .before .before .before .before .before .before .before .before .before .before .before .loop .inv .1 w) (step-at w _ _ n)
-      (c .before .before .step .ensures .0 (w .loaded) (w .arrays) (record { first = row-at w _ _ _ (c .before .before .before .before .before .before .before .wide .ensures); second = row-at w _ _ _ (c .before .before .before .before .wide2 .ensures) })) (c .before .if1 .left),
+      let n : c .before .before .before .before .before .before .before .before .before .before .before .before .loop .i < length (stepsView (c .before .before .before .before .before .before .before .before .before .before .before .before .before .before .before .args .t2)) = omega (arith, count w, c .before .before .before .before .before .before .before .before .before .before .before .loop-test .taken) in
+      at-next w (c .before .before .before .before .before .before .before .before .before .before .before .before .loop .i) (c .before .before .before .before .before .before .before .before .before .before .before .before .loop .s) _ (c .before .before .before .step .result) n (c .before .before .before .before .before .before .before .before .before .before .before .before .loop .inv .1 w) (step-at w _ _ n)
+      (c .before .before .before .step .ensures .0 (w .loaded) (w .arrays) (record { first = row-at w _ _ _ (c .before .before .before .before .before .before .before .before .wide .ensures); second = row-at w _ _ _ (c .before .before .before .before .before .wide2 .ensures) })) (c .before .if1 .left),
 )
 
-cast-t38 : tie.Need-cast-t38 Inv-loop μ-loop
-cast-t38 c = omega (arith, fits (c .before .before .before .before), c .before .loop .inv .0)
+cast-t36 : tie.Need-cast-t36 Inv-loop μ-loop
+cast-t36 c = omega (arith, fits (c .before .before .before .before), c .before .loop .inv .0)
 
 returns-2 : tie.Need-returns-2 Inv-loop μ-loop
 returns-2 c = λ w. at-end w (c .before .loop .i) (c .before .loop .s) (omega (arith, count w)) (c .before .loop .inv .1 w)
@@ -107,10 +107,10 @@ walk-spec =
     mul-runs
     element-copy-out-runs
     step-requires
-    cast-t37
+    cast-t35
     returns
     add-i
     loop-less
     loop-again
-    cast-t38
+    cast-t36
     returns-2)

@@ -8,7 +8,7 @@ use mathlib.Core.Logic.{_⊎_, inl, inr}
 use mathlib.Core.Bool.{cond}
 use mathlib.Core.List.{List}
 use lib.Dec.{ltb}
-use lib.ListN.{length, getD, replicate, List·getD-eq-default}
+use lib.ListN.{length, getD, List·getD-eq-default}
 use borrow.Author.Tests.{lt-ltb, le-ltb}
 use Rattle.meaning.specs.Lists.{In}
 use Rattle.meaning.specs.Tables.{home, supersOf, noClass, classAt}
@@ -19,8 +19,8 @@ use Rattle.tables.specs.Pack.{packClass}
 use Rattle.tables.specs.Held.{Held}
 use Rattle.tables.proofs.Pack.{pad-at}
 use Rattle.tables.proofs.Views.{held-classes}
-use Rattle.bits.specs.Fold.{upTo, storeAt}
 use Rattle.bits.proofs.FillLaws.{stored-before}
+use Rattle.trust.specs.Relations.{directSupertypes}
 use Rattle.trust.specs.Filling.{blank, superOr, superAt}
 
 module _ (t : Tables) (h : Held t) where
@@ -34,11 +34,11 @@ module _ (t : Tables) (h : Held t) where
   -- ---- the four places of a class
 
   abbrev pub places : List ℕ
-  places = upTo (4 * t .classes .n) (storeAt (superAt (t .classes .at))) (replicate 508 0)
+  places = directSupertypes (t .classes .at) (t .classes .n)
 
   -- a direct supertype, or the class itself
   place : (c j : ℕ) → c < t .classes .n → j < 4 → getD places (4 * c + j) 0 ≡ cond (ltb j (length (supersOf (view t) c))) (getD (supersOf (view t) c) j 0) c
-  unfolding supersOf
+  unfolding supersOf directSupertypes
   place c j l k =
       let few = few-classes in
       let e : (4 * c + j) / 4 ≡ c = omega arith in

@@ -4,10 +4,10 @@ ghost use Prim.Native.Nat.{ℕ, _+_, _*_, _<_, _≤_};
 ghost use lib.ListN.{getD, replicate};
 ghost use Rattle.tables.specs.View.{view, zeroPair};
 ghost use Rattle.tables.specs.Held.{Held};
-ghost use Rattle.bits.specs.Fold.{upTo, storeAt};
-ghost use Rattle.trust.specs.Relations.{Homes, dominanceRows, subtypeRows, suspicionRows, suspectRows};
+ghost use Rattle.bits.specs.Fold.{upTo};
+ghost use Rattle.trust.specs.Relations.{Homes, dominanceRows, directSupertypes, subtypeRows, suspicionRows, suspectRows};
 ghost use Rattle.trust.specs.Closing.{startAt, listAt, throughAt};
-ghost use Rattle.trust.specs.Filling.{superOr, superAt, fillAt, ownAt, apartIn, layAt, gatherAt, spreadAt};
+ghost use Rattle.trust.specs.Filling.{superOr, fillAt, ownAt, apartIn, layAt, gatherAt, spreadAt};
 
 fn index(x: u8) -> usize
     ensures { λ r. ⌜ r ≡ x ⌝ }
@@ -58,8 +58,7 @@ pub fn dominance(t: tables::Tables) -> [u32; 32]
     let mut rows = [0u32; 32];
     let nd = t.domains;
     start(&mut rows, nd);
-    let p = t.pairs;
-    list(&mut rows, p);
+    list(&mut rows, t.pairs);
     for k in 0..nd {
         through(&mut rows, k, nd);
     }
@@ -75,9 +74,9 @@ fn super_or(x: tables::Class, j: usize, c: usize) -> u8
 }
 
 // The direct supertypes, four places for each class.
-fn supers(cs: tables::Classes) -> [u8; 508]
+pub fn direct_supertypes(cs: tables::Classes) -> [u8; 508]
     requires { ⌜ cs .n ≤ 127 ⌝ }
-    ensures { λ r. ⌜ r ≡ upTo (4 * cs .n) (storeAt (superAt (cs .at))) (replicate 508 0) ⌝ }
+    ensures { λ r. ⌜ r ≡ directSupertypes (cs .at) (cs .n) ⌝ }
 {
     let mut r = [0u8; 508];
     let m = 4 * cs.n;
@@ -122,17 +121,15 @@ fn fill(supers: &[u8; 508], rows: &mut [u64; 254], upto: usize)
 }
 
 // Row a has the bit b exactly where A <: B.
-pub fn supertypes(t: tables::Tables) -> [u64; 254]
+pub fn supertypes(t: tables::Tables, places: &[u8; 508], rows: &mut [u64; 254])
     requires { ⌜ Held t ⌝ }
-    ensures { λ r. ⌜ r ≡ subtypeRows (view t) ⌝ }
+    requires { ⌜ now places ≡ directSupertypes (t .classes .at) (t .classes .n) ⌝ }
+    requires { ⌜ now rows ≡ replicate 254 0 ⌝ }
+    ensures { λ _. ⌜ now (rows .exit) ≡ subtypeRows (view t) ⌝ }
 {
-    let cs = t.classes;
-    let n = cs.n;
-    let places = supers(cs);
-    let mut rows = [0u64; 254];
-    own(&mut rows, n);
-    fill(&places, &mut rows, n);
-    rows
+    let n = t.classes.n;
+    own(rows, n);
+    fill(places, rows, n);
 }
 
 // Whether neither of two domains dominates the other.
@@ -181,14 +178,14 @@ fn spread(rows: &mut [u64; 254], homes: &[u8; 127], found: &[u64; 254], n: usize
 }
 
 // Row a has the bit b exactly where A and B are suspicious. Suspicion is a matter of domains, so it is found domain by domain.
-pub fn suspicion(t: tables::Tables, homes: &[u8; 127], dom: &[u32; 32]) -> [u64; 254]
+pub fn suspicion(t: tables::Tables, homes: &[u8; 127], dom: &[u32; 32], rows: &mut [u64; 254])
     requires { ⌜ Held t ⌝ }
     requires { ⌜ Homes (view t) (now homes) ⌝ }
     requires { ⌜ now dom ≡ dominanceRows (view t) ⌝ }
-    ensures { λ r. ⌜ r ≡ suspicionRows (view t) ⌝ }
+    requires { ⌜ now rows ≡ replicate 254 0 ⌝ }
+    ensures { λ _. ⌜ now (rows .exit) ≡ suspicionRows (view t) ⌝ }
 {
-    let cs = t.classes;
-    let n = cs.n;
+    let n = t.classes.n;
     let nd = t.domains;
     let mut lying = [0u64; 254];
     lay(&mut lying, homes, n);
@@ -196,21 +193,15 @@ pub fn suspicion(t: tables::Tables, homes: &[u8; 127], dom: &[u32; 32]) -> [u64;
     for d in 0..nd {
         gather(&mut found, dom, &lying, d, nd);
     }
-    let mut rows = [0u64; 254];
-    spread(&mut rows, homes, &found, n);
-    rows
+    spread(rows, homes, &found, n);
 }
 
-// Row a has the bit b exactly where B and some supertype of A are suspicious.
-pub fn suspects(t: tables::Tables, suspicion: &[u64; 254]) -> [u64; 254]
+// Row a has the bit b exactly where B and some supertype of A are suspicious; before, where B and A are.
+pub fn suspects(t: tables::Tables, places: &[u8; 508], rows: &mut [u64; 254])
     requires { ⌜ Held t ⌝ }
-    requires { ⌜ now suspicion ≡ suspicionRows (view t) ⌝ }
-    ensures { λ r. ⌜ r ≡ suspectRows (view t) ⌝ }
+    requires { ⌜ now places ≡ directSupertypes (t .classes .at) (t .classes .n) ⌝ }
+    requires { ⌜ now rows ≡ suspicionRows (view t) ⌝ }
+    ensures { λ _. ⌜ now (rows .exit) ≡ suspectRows (view t) ⌝ }
 {
-    let cs = t.classes;
-    let n = cs.n;
-    let places = supers(cs);
-    let mut rows = *suspicion;
-    fill(&places, &mut rows, n);
-    rows
+    fill(places, rows, t.classes.n);
 }

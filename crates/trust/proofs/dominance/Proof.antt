@@ -20,16 +20,16 @@ start-requires : tie.Need-start-requires Inv-loop μ-loop
 start-requires c κs = few-domains _ (c .before .pre)
 
 list-requires : tie.Need-list-requires Inv-loop μ-loop
-list-requires c κs = pairs-fit _ (c .before .before .before .before .pre)
+list-requires c κs = pairs-fit _ (c .before .before .before .pre)
 
 loop-holds : tie.Need-loop-holds Inv-loop μ-loop
 loop-holds c = (search needs, upTo-none _ _)
 
 through-requires : tie.Need-through-requires Inv-loop μ-loop
-through-requires c κs = (search needs, few-domains _ (c .before .before .before .before .before .before .before .before .pre))
+through-requires c κs = (search needs, few-domains _ (c .before .before .before .before .before .before .before .pre))
 
 add-k : tie.Need-add-k Inv-loop μ-loop
-add-k c = let h = few-domains _ (c .before .before .before .before .before .before .before .before .before .pre) in search needs
+add-k c = let h = few-domains _ (c .before .before .before .before .before .before .before .before .pre) in search needs
 
 loop-less : tie.Need-loop-less Inv-loop μ-loop
 loop-less c = search needs
@@ -38,10 +38,12 @@ loop-again : tie.Need-loop-again Inv-loop μ-loop
 loop-again c = (search needs, c .through .ensures ∙ upTo-turn (throughAt _) _ _ (c .before .before .before .loop .inv .1))
 
 returns : tie.Need-returns Inv-loop μ-loop
-returns c = let t = c .before .before .before .before .before .before .before .args .t in
+returns c =
+    let s = c .before .before .before .before .before .before in
+    let t = s .args .t in
     upTo-done _ _ _ _ (c .before .loop .inv .0) (c .loop-test .left) (c .before .loop .inv .1)
-    ∙ ap (λ (l : List ℕ). upTo (t .domains) (throughAt (t .domains)) l) (c .before .before .list .ensures ∙ ap (λ (l : List ℕ). upTo (t .pairs .n) (listAt (t .pairs .at)) l) (c .before .before .before .before .before .start .ensures))
-    ∙ closed-held t (c .before .before .before .before .before .before .before .pre)
+    ∙ ap (λ (l : List ℕ). upTo (t .domains) (throughAt (t .domains)) l) (c .before .before .list .ensures ∙ ap (λ (l : List ℕ). upTo (t .pairs .n) (listAt (t .pairs .at)) l) (c .before .before .before .before .start .ensures))
+    ∙ closed-held t (s .pre)
 
 pub dominance-spec : {M : Type 1} → statement M
 dominance-spec =

@@ -1,14 +1,15 @@
--- `trust::supers` meets its contract: the loop stores each place. Assumes nothing.
+-- `trust::direct_supertypes` meets its contract: the loop stores each place. Assumes nothing.
 use mathlib.Core.Path.{_≡_, refl, _∙_, ap}
 use Prim.Native.Nat.{ℕ, _≤_, _-_, _*_}
 use native.Mathlib.Omega.{arith}
 use lib.ListN.{set, replicate}
 use Rattle.bits.specs.Fold.{upTo, storeAt}
 use Rattle.bits.proofs.FoldLaws.{upTo-none, upTo-turn, upTo-done}
+use Rattle.trust.specs.Relations.{directSupertypes}
 use Rattle.trust.specs.Filling.{superAt}
 use borrow.Author.Needs.{needs}
-use Rattle.trust.proofs.supers.Statement.{statement}
-use Rattle.trust.proofs.supers.Tie as tie
+use Rattle.trust.proofs.direct_supertypes.Statement.{statement}
+use Rattle.trust.proofs.direct_supertypes.Tie as tie
 
 abbrev Inv-loop : tie.InvT-loop
 Inv-loop cs r₀ m i₀ r i = (m ≡ 4 * cs .n) × (i ≤ m) × (r ≡ upTo i (storeAt (superAt (cs .at))) (replicate 508 0))
@@ -44,10 +45,11 @@ loop-again : tie.Need-loop-again Inv-loop μ-loop
 loop-again c = (search needs, search needs, ap (λ (x : ℕ). set (c .before .before .before .loop .r) (c .before .before .before .loop .i) x) (c .super-or .ensures) ∙ upTo-turn (storeAt (superAt (c .before .before .before .before .args .t1 .at))) _ _ (c .before .before .before .loop .inv .2))
 
 returns : tie.Need-returns Inv-loop μ-loop
+unfolding directSupertypes
 returns c = upTo-done _ _ _ _ (omega arith) (omega arith) (c .before .loop .inv .2)
 
-pub supers-spec : {M : Type 1} → statement M
-supers-spec =
+pub direct-supertypes-spec : {M : Type 1} → statement M
+direct-supertypes-spec =
     tie.close
     (tie.spec
     Inv-loop

@@ -1,5 +1,6 @@
 pub mod Filled
 pub mod Visiting
+pub mod Looking
 pub mod Stepwise
 pub mod Judged
 pub mod Together

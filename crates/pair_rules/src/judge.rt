@@ -9,6 +9,8 @@ ghost use Rattle.meaning.specs.Reading.{answer};
 ghost use Rattle.meaning.specs.Check.{firstFound, tableFindings};
 ghost use Rattle.tables.specs.View.{view};
 ghost use Rattle.tables.specs.Held.{Held};
+ghost use Rattle.homes.specs.Homes.{Rows};
+ghost use Rattle.trust.specs.Relations.{directSupertypes, subtypeRows, suspicionRows};
 ghost use Rattle.pair_tests.specs.Rows.{Known};
 ghost use Rattle.pair_rules.specs.Judged.{sizeBy, foundBy, ofMethods, BySlot, Broken};
 
@@ -58,9 +60,7 @@ fn find(
     requires { ⌜ Broken (view t) broken ⌝ }
     ensures { λ r. ⌜ r ≡ foundOf (foundBy rule (view t)) ⌝ }
 {
-    let methods = t.methods;
-    let classes = t.classes;
-    let n = size_of(rule, t.domains, classes.n, methods.n);
+    let n = size_of(rule, t.domains, t.classes.n, t.methods.n);
     if of_methods(rule) {
         if !broken {
             return Found::Nothing;
@@ -69,7 +69,7 @@ fn find(
             rule,
             n,
             chains,
-            methods,
+            t.methods,
             homes,
             doms,
             supers,
@@ -77,12 +77,12 @@ fn find(
             above,
         );
     }
-    if pair_tests::clears(rule, classes, homes, doms, apart) {
+    if pair_tests::clears(rule, t.classes, homes, doms, apart) {
         return Found::Nothing;
     }
     let keys = crate::visits::plain();
     let all = crate::visits::visits_of(&keys, n);
-    crate::search::first_pair(rule, n, all, methods, homes, doms, supers, apart, above)
+    crate::search::first_pair(rule, n, all, t.methods, homes, doms, supers, apart, above)
 }
 
 fn unbroken() -> Answer
@@ -101,24 +101,27 @@ pub fn table_rules(
     doms: &[u32; 32],
     supers: &[u64; 254],
     apart: &[u64; 254],
-    above: &[u64; 254],
+    places: &[u8; 508],
 ) -> Answer
     requires { ⌜ Held t ⌝ }
-    requires { ⌜ Known (view t) (now homes) (now doms) (now supers) (now apart) (now above) ⌝ }
+    requires { ⌜ Rows (view t) (now homes) (now doms) ⌝ }
+    requires { ⌜ now supers ≡ subtypeRows (view t) ⌝ }
+    requires { ⌜ now apart ≡ suspicionRows (view t) ⌝ }
+    requires { ⌜ now places ≡ directSupertypes (t .classes .at) (t .classes .n) ⌝ }
     ensures { λ r. ⌜ r ≡ answerOf (firstFound (tableFindings (view t))) ⌝ }
 {
-    let methods = t.methods;
-    let n = methods.n;
-    let keys = crate::visits::slots(methods);
+    let n = t.methods.n;
+    let keys = crate::visits::slots(t.methods);
     let chains = crate::visits::visits_of(&keys, n);
-    let broken = crate::search::some_broken(n, chains, methods, homes, doms, supers);
-    let classes = t.classes;
-    if pair_tests::all_clear(broken, t.domains, classes, homes, doms, apart) {
+    let broken = crate::search::some_broken(n, chains, t.methods, homes, doms, supers);
+    if pair_tests::all_clear(broken, t.domains, t.classes, homes, doms, apart) {
         return unbroken();
     }
+    let mut above = *apart;
+    trust::suspects(t, places, &mut above);
     for i in 0..8 {
         let rule = TABLE_RULES[i];
-        if let Found::At(a, b) = find(rule, t, chains, broken, homes, doms, supers, apart, above) {
+        if let Found::At(a, b) = find(rule, t, chains, broken, homes, doms, supers, apart, &above) {
             return Answer {
                 number: rule,
                 first: a as u16,

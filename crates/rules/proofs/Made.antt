@@ -1,4 +1,4 @@
--- The homes and rows that are made once are those that the rules look at.
+-- The homes and the rows of ► that are made once are those that the rules look at.
 -- Assumes nothing.
 use Prim.Native.Nat.{ℕ, _<_}
 use mathlib.Core.Path.{_≡_, refl}
@@ -9,9 +9,7 @@ use Rattle.tables.specs.View.{view, classesView}
 use Rattle.tables.specs.Held.{Held}
 use Rattle.homes.specs.Homes.{homesOf, Rows}
 use Rattle.homes.proofs.Laws.{home-is}
-use Rattle.trust.specs.Relations.{Homes, dominanceRows, subtypeRows, suspicionRows, suspectRows, above}
-use Rattle.pair_tests.specs.Tests.{aboveApart}
-use Rattle.pair_tests.specs.Rows.{Known}
+use Rattle.trust.specs.Relations.{Homes, dominanceRows}
 
 module _ (t : Tables) (held : Held t) {homes doms : List ℕ} (h : homes ≡ homesOf (classesView (t .classes))) (d : doms ≡ dominanceRows (view t)) where
   pub rows-made : Rows (view t) homes doms
@@ -20,8 +18,3 @@ module _ (t : Tables) (held : Held t) {homes doms : List ℕ} (h : homes ≡ hom
 
   pub homes-made : Homes (view t) homes
   homes-made c l = home-is rows-made c
-
-  pub known-made : {supers apart suspects : List ℕ} → supers ≡ subtypeRows (view t) → apart ≡ suspicionRows (view t) → suspects ≡ suspectRows (view t)
-      → Known (view t) homes doms supers apart suspects
-  unfolding subtypeRows suspicionRows suspectRows above aboveApart
-  known-made s a b = record { rows = rows-made; the-supers = s; the-apart = a; the-above = b }

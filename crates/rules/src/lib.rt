@@ -11,13 +11,14 @@ pub fn verdict(t: Tables) -> Answer
     requires { ⌜ Held t ⌝ }
     ensures { λ r. ⌜ r ≡ answerOf (verdict (view t)) ⌝ }
 {
-    let classes = t.classes;
-    let homes = homes::homes(classes);
+    let homes = homes::homes(t.classes);
     let doms = trust::dominance(t);
-    let supers = trust::supertypes(t);
-    let apart = trust::suspicion(t, &homes, &doms);
-    let above = trust::suspects(t, &apart);
-    let found = pair_rules::table_rules(t, &homes, &doms, &supers, &apart, &above);
+    let places = trust::direct_supertypes(t.classes);
+    let mut supers = [0u64; 254];
+    trust::supertypes(t, &places, &mut supers);
+    let mut apart = [0u64; 254];
+    trust::suspicion(t, &homes, &doms, &mut apart);
+    let found = pair_rules::table_rules(t, &homes, &doms, &supers, &apart, &places);
     if found.number != 0 {
         return found;
     }

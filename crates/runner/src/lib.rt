@@ -87,7 +87,9 @@ fn run_script(t: Tables, script: &[u8], out: &mut [u8]) -> RunAnswer
     requires { ⌜ 7200 ≤ length (now out) ⌝ }
     ensures { λ r. ⌜ Leaves (write (ofScript (view t) (readScript (view t) (now (script .entry)))) (now (out .entry))) r (now (out .exit)) ⌝ }
 {
-    let rows = trust::supertypes(t);
+    let places = trust::direct_supertypes(t.classes);
+    let mut rows = [0u64; 254];
+    trust::supertypes(t, &places, &mut rows);
     let read = script::read(script, t, &rows);
     if read.no != 0 {
         return only(read.no, read.line as u16, 0);

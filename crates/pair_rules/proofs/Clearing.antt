@@ -38,7 +38,7 @@ module _ (t : Tables) (held : Held t) {homes doms supers apart above : List ℕ}
   P = view t
 
   -- no two domains break 10
-  none-10 : mutualBy doms (t .domains) ≡ false → foundBy 10 P ≡ none
+  pub none-10 : mutualBy doms (t .domains) ≡ false → foundBy 10 P ≡ none
   unfolding foundBy sizeOf mutualBy byOf testOf view
   none-10 e =
       nowhere _ _ (λ d f h l.

@@ -21,7 +21,8 @@ fn mutual_with(doms: &[u32; 32], n: usize, d: usize) -> bool
     false
 }
 
-fn some_mutual(doms: &[u32; 32], n: usize) -> bool
+// Some two distinct ones of n domains dominate each other: rule 10 is broken.
+pub fn some_mutual(doms: &[u32; 32], n: usize) -> bool
     requires { ⌜ n ≤ 32 ⌝ }
     ensures { λ r. ⌜ r ≡ mutualBy (now (doms .entry)) n ⌝ }
 {

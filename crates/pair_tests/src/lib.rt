@@ -5,6 +5,7 @@ mod rule;
 mod tests;
 
 pub use clear::all_clear;
+pub use clear::some_mutual;
 pub use direct::clears;
 pub use rule::breaks;
 pub use rule::breaks_some;

@@ -4,32 +4,20 @@ use Prim.Native.Nat.{ℕ, _≤_, _<_}
 use native.Mathlib.Decide.{decLt, ℕ-discrete}
 use native.Mathlib.Omega.{arith}
 use mathlib.Core.Path.{_≡_, refl, ap}
-use mathlib.Core.Bool.{_&&_}
 use mathlib.Core.List.{[], map}
-use lib.Dec.{leb, leb→le}
-use lib.ListN.{length, getD, List·getD-eq-default}
+use lib.ListN.{length, List·getD-eq-default}
 use borrow.Author.Tests.{eq-eqb, ne-eqb}
-use Rattle.meaning.specs.Lists.{all}
 use Rattle.meaning.specs.Tables.{Package, noMethod, paramsOf, namedBy}
 use Rattle.meaning.specs.Check.{effectFindings}
 use Rattle.meaning.specs.Good.{Good}
-use Rattle.meaning.proofs.Bools.{both}
-use Rattle.meaning.proofs.Lists.{all-sound, getD-in}
 use Rattle.found.specs.declared.Found.the-variants.{At}
 use Rattle.found.specs.Found.{foundOf}
 use Rattle.found.proofs.Named.{byNumber, places}
-use Rattle.effect_rules.specs.Search.{effectNumbers, EffectRule, breaksOf, secondsOf, firstEffect}
+use Rattle.effect_rules.specs.Search.{effectNumbers, breaksOf, secondsOf, firstEffect}
 
 pub effect-findings : (P : Package) → effectFindings P ≡ map (byNumber (λ (r : ℕ). firstEffect r P)) effectNumbers
 unfolding effectFindings firstEffect breaksOf secondsOf
 effect-findings P = refl
-
-pub effect-rule : (i : ℕ) → i < 5 → EffectRule (getD effectNumbers i 0)
-unfolding all
-effect-rule i h =
-    let r = getD effectNumbers i 0 in
-    let t = both (leb 26 r) (leb r 30) (all-sound (λ (x : ℕ). leb 26 x && leb x 30) {xs = effectNumbers} tt (getD-in effectNumbers i 0 h)) in
-    record { least = leb→le 26 r (t .0); most = leb→le r 30 (t .1) }
 
 module _ (P : Package) (g : Good P) where
   params-few : (m : ℕ) → length (paramsOf P m) ≤ 6

@@ -1,26 +1,19 @@
--- The rules over effects asked together: where no effect breaks any of them, none of them finds a place.
+-- A rule asked of one effect as a whole: whether it is broken at some second place of those that are looked at.
 -- Assumes nothing.
 use Prim.Native.Nat.{ℕ, _+_, _<_}
 use native.Mathlib.Decide.{ℕ-discrete}
 use native.Mathlib.Omega.{arith}
-use mathlib.Core.Path.{_≡_, refl, sym, ap, _∙_}
+use mathlib.Core.Path.{_≡_}
 use mathlib.Core.Logic.{inl, inr}
-use mathlib.Core.Bool.{Bool, true, false, _||_}
-use mathlib.Core.Option.{Option, none, some}
+use mathlib.Core.Bool.{Bool, true, false}
 use mathlib.Core.List.{List}
-use lib.Dec.{T}
-use lib.ListN.{length}
-use Rattle.meaning.specs.Lists.{Place, firstPlace, anyBelow}
+use Rattle.meaning.specs.Lists.{anyBelow}
 use Rattle.meaning.specs.Tables.{Package}
-use Rattle.meaning.specs.Reading.{answer}
-use Rattle.meaning.specs.Check.{firstFound, effectFindings}
-use Rattle.meaning.proofs.Bools.{or-left, or-right, false-fails, true-passes, passes-true, fails-false}
+use Rattle.meaning.proofs.Bools.{false-fails, true-passes, passes-true, fails-false}
 use Rattle.meaning.proofs.Lists.{anyBelow-sound, anyBelow-complete}
-use Rattle.meaning.proofs.Search.{firstPlace-sound}
 use Rattle.effect_rules.specs.declared.Site.{Site}
 use Rattle.effect_rules.specs.Sites.{Seen}
-use Rattle.effect_rules.specs.Search.{breaksOf, secondsOf, placesOf, firstEffect, brokenAt, someAt}
-use Rattle.effect_rules.proofs.Findings.{effect-findings}
+use Rattle.effect_rules.specs.Search.{breaksOf, secondsOf, placesOf, brokenAt}
 use Rattle.effect_rules.proofs.Turns.{AllOrNone, all-or-none, places-most}
 
 -- ---- as the loops go
@@ -60,33 +53,3 @@ module _ {homes doms : List ℕ} {s : Site} {P : Package} {i : ℕ} (a : Seen ho
       on : AllOrNone rule s P i → NoneBefore (breaksOf rule P i) (secondsOf rule P i)
       on (inl e) = record { clear = λ k h. w .clear k (omega (arith, q, e)) }
       on (inr n) = record { clear = λ k h. n .1 k }
-
--- ---- all effects
-
--- no effect breaks a rule
-module _ (P : Package) (e : anyBelow (length (P .effects)) (someAt P) ≡ false) where
-  module _ (rule : ℕ) (in-some : (i : ℕ) → T (brokenAt rule P i) → T (someAt P i)) where
-    nothing : firstEffect rule P ≡ none
-    unfolding firstEffect brokenAt
-    nothing = on (firstPlace (length (P .effects)) (secondsOf rule P) (breaksOf rule P)) refl
-      where
-        on : (x : Option Place) → firstPlace (length (P .effects)) (secondsOf rule P) (breaksOf rule P) ≡ x → x ≡ none
-        on none q = refl
-        on (some p) q =
-            let w = firstPlace-sound (length (P .effects)) (secondsOf rule P) (breaksOf rule P) p q in
-            absurd (false-fails _ e (anyBelow-complete (someAt P) (length (P .effects)) (p .first) (w .first) (in-some (p .first) (anyBelow-complete (breaksOf rule P (p .first)) (secondsOf rule P (p .first)) (p .second) (w .second) (w .passes)))))
-
-  abbrev b : ℕ → ℕ → Bool
-  b rule i = brokenAt rule P i
-
-  pub found-nothing : firstFound (effectFindings P) ≡ answer 0 0 0
-  unfolding firstFound someAt
-  found-nothing =
-      ap firstFound (effect-findings P)
-      ∙ rw (
-        nothing 26 (λ i. or-left (b 26 i) _),
-        nothing 27 (λ i t. or-right (b 26 i) _ (or-left (b 27 i) _ t)),
-        nothing 28 (λ i t. or-right (b 26 i) _ (or-right (b 27 i) _ (or-left (b 28 i) _ t))),
-        nothing 29 (λ i t. or-right (b 26 i) _ (or-right (b 27 i) _ (or-right (b 28 i) _ (or-left (b 29 i) _ t)))),
-        nothing 30 (λ i t. or-right (b 26 i) _ (or-right (b 27 i) _ (or-right (b 28 i) _ (or-right (b 29 i) _ t)))),
-      )

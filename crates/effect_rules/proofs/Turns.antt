@@ -2,6 +2,7 @@
 -- that can break the rule.
 -- Assumes nothing.
 use Prim.Native.Nat.{ℕ, zero, suc, _≤_, _<_}
+use native.Mathlib.Nat.{le-refl, le-step}
 use native.Mathlib.Decide.{decLt, ℕ-discrete}
 use native.Mathlib.Numerals.{add-one}
 use native.Mathlib.Omega.{arith}
@@ -83,9 +84,9 @@ places-30 rule s j e h = on (decLt (s .effect .op) 6)
     on (no n) = let m : 6 ≤ s .effect .op = omega arith in (m, rw (eq-eqb rule 30 e, le-ltb (s .effect .op) 6 m) at h)
 
 -- a row in which nothing passes
-row-false : {test : ℕ → ℕ → Bool} {a : ℕ} → ((b : ℕ) → test a b ≡ false) → (n : ℕ) → ClearRow test a n
-row-false f zero = row-none
-row-false {test} {a} f (suc n) = subst (ClearRow test a) (add-one n) (row-more (row-false f n) (f n))
+pub row-false : {test : ℕ → ℕ → Bool} {a : ℕ} (n : ℕ) → ((b : ℕ) → b < n → test a b ≡ false) → ClearRow test a n
+row-false zero f = row-none
+row-false {test} {a} (suc n) f = subst (ClearRow test a) (add-one n) (row-more (row-false n (λ b h. f b (le-step h))) (f n (le-refl (suc n))))
 
 -- the places that are looked at are all, or none where nothing can pass
 abbrev pub AllOrNone : ℕ → Site → Package → ℕ → Type 0
@@ -113,4 +114,4 @@ module _ {homes doms : List ℕ} {s : Site} {P : Package} {i : ℕ} (a : Seen ho
     where
       on : AllOrNone rule s P i → ClearRow (breaksOf rule P) i (secondsOf rule P i)
       on (inl e) = subst (ClearRow (breaksOf rule P) i) (q ∙ e) r
-      on (inr n) = row-false (n .1) (secondsOf rule P i)
+      on (inr n) = row-false (secondsOf rule P i) (λ b h. n .1 b)

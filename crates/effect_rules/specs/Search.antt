@@ -1,7 +1,8 @@
 -- The search over effects, one for the five rules: by a rule's number its test and its second places.
 -- Assumes nothing.
-use Prim.Native.Nat.{ℕ, _≤_}
-use mathlib.Core.Bool.{Bool, _||_, cond}
+use Prim.Native.Nat.{ℕ, zero, suc, _≤_, _<_}
+use mathlib.Core.Path.{_≡_}
+use mathlib.Core.Bool.{Bool, false, cond}
 use mathlib.Core.Option.{Option}
 use mathlib.Core.List.{List, [], _∷_}
 use lib.Dec.{eqb, ltb}
@@ -10,6 +11,7 @@ use Rattle.meaning.specs.Lists.{Place, firstPlace, anyBelow}
 use Rattle.meaning.specs.Tables.{Package, paramsOf, namedBy}
 use Rattle.meaning.specs.Tests.{breaks26, breaks27, breaks28, breaks29, breaks30}
 use Rattle.effect_rules.specs.declared.Site.{Site}
+use Rattle.effect_rules.specs.declared.Low.{Low}
 
 -- the rules over effects in 01's order
 abbrev pub effectNumbers : List ℕ
@@ -43,6 +45,29 @@ firstEffect rule P = firstPlace (length (P .effects)) (secondsOf rule P) (breaks
 unfoldable pub brokenAt : ℕ → Package → ℕ → Bool
 brokenAt rule P i = anyBelow (secondsOf rule P i) (breaksOf rule P i)
 
--- some rule is
-unfoldable pub someAt : Package → ℕ → Bool
-someAt P i = brokenAt 26 P i || (brokenAt 27 P i || (brokenAt 28 P i || (brokenAt 29 P i || brokenAt 30 P i)))
+-- and at none before
+pub record Unbroken (rule : ℕ) (P : Package) (from : ℕ) : Type 0 where
+  pub within : from ≤ length (P .effects)
+  pub before : (i : ℕ) → i < from → brokenAt rule P i ≡ false
+
+-- ---- all rules in one pass
+
+-- the lowest rule that is broken at effect i; 31 where none is
+unfoldable pub lowestAt : Package → ℕ → ℕ
+unfolding brokenAt
+lowestAt P i =
+    cond (brokenAt 26 P i) 26
+    (cond (brokenAt 27 P i) 27
+    (cond (brokenAt 28 P i) 28
+    (cond (brokenAt 29 P i) 29
+    (cond (brokenAt 30 P i) 30 31))))
+
+-- what was lowest, or rule r at effect i where that is lower
+unfoldable pub lower : Low → ℕ → ℕ → Low
+lower low r i = cond (ltb r (low .rule)) (record { rule = r; at = i }) low
+
+-- the lowest rule that is broken at one of the first n effects, and the first that breaks it; 31 and 0 where none is
+unfoldable pub lowestIn : Package → ℕ → Low
+unfolding lower lowestAt
+lowestIn P zero = record { rule = 31; at = 0 }
+lowestIn P (suc n) = lower (lowestIn P n) (lowestAt P n) n

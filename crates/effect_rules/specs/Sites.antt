@@ -29,8 +29,8 @@ Known homes doms s = (P : Package) × (i : ℕ) × Seen homes doms s P i
 abbrev pub Judges : (Package → ℕ → ℕ → Bool) → List ℕ → List ℕ → Site → ℕ → Bool → Type 0
 Judges breaks homes doms s j r = (P : Package) (i : ℕ) → Seen homes doms s P i → r ≡ breaks P i j
 
--- the same of a test that has no second place
-abbrev pub Judged : (Package → ℕ → Bool) → List ℕ → List ℕ → Site → Bool → Type 0
+-- the same of what has no second place
+abbrev pub Judged : {A : Type 0} → (Package → ℕ → A) → List ℕ → List ℕ → Site → A → Type 0
 Judged broken homes doms s r = (P : Package) (i : ℕ) → Seen homes doms s P i → r ≡ broken P i
 
 -- c ▷ m, of a class and a method with that label

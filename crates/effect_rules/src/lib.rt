@@ -1,8 +1,7 @@
-// The rules over effects, 26 to 30: a test for each, and one search for all. What they mean is `meaning`'s Tests.antt.
+// The rules over effects, 26 to 30: a test for each, one pass for the lowest that is broken, and one search for all. What they mean is `meaning`'s Tests.antt.
 ghost use mathlib.Core.Path.{_≡_};
 ghost use Prim.Native.Nat.{_<_, _≤_};
 ghost use lib.ListN.{length};
-ghost use Rattle.meaning.specs.Lists.{anyBelow};
 ghost use Rattle.meaning.specs.Check.{firstFound, effectFindings};
 ghost use Rattle.meaning.specs.Tests.{breaks26, breaks27, breaks28, breaks29, breaks30};
 ghost use Rattle.tables.specs.View.{view};
@@ -10,11 +9,9 @@ ghost use Rattle.tables.specs.Held.{Held};
 ghost use Rattle.found.specs.Found.{foundOf, answerOf};
 ghost use Rattle.homes.specs.Homes.{Small, Rows};
 ghost use Rattle.effect_rules.specs.Sites.{labelBit, Known, Judges, Judged, Grants};
-ghost use Rattle.effect_rules.specs.Search.{EffectRule, breaksOf, placesOf, firstEffect, brokenAt, someAt};
+ghost use Rattle.effect_rules.specs.Search.{EffectRule, breaksOf, placesOf, firstEffect, brokenAt, Unbroken, lowestAt, lowestIn};
 use found::Answer;
 use found::Found;
-
-const EFFECT_RULES: [u8; 5] = [26, 27, 28, 29, 30];
 
 // An effect and the method that has it, with the field and the method of the number that it names: its op says which of the two counts.
 struct Site {
@@ -22,6 +19,12 @@ struct Site {
     caller: tables::Method,
     field: tables::Field,
     called: tables::Method,
+}
+
+// The lowest broken rule so far and the first effect that breaks it; 31 is no rule's number, and stands for none.
+struct Low {
+    rule: u8,
+    at: usize,
 }
 
 fn wide(x: u8) -> usize
@@ -177,35 +180,40 @@ fn breaks_here(rule: u8, homes: &[u8; 127], doms: &[u32; 32], s: Site) -> bool
     false
 }
 
-fn breaks_some(homes: &[u8; 127], doms: &[u32; 32], s: Site) -> bool
+// The lowest rule that is broken at this effect; 31 where none is.
+fn lowest_here(homes: &[u8; 127], doms: &[u32; 32], s: Site) -> u8
     requires { ⌜ Known (now homes) (now doms) s ⌝ }
-    ensures { λ r. ⌜ Judged someAt (now (homes .entry)) (now (doms .entry)) s r ⌝ }
+    ensures { λ r. ⌜ Judged lowestAt (now (homes .entry)) (now (doms .entry)) s r ⌝ }
 {
     if breaks_here(26, homes, doms, s) {
-        return true;
+        return 26;
     }
     if breaks_here(27, homes, doms, s) {
-        return true;
+        return 27;
     }
     if breaks_here(28, homes, doms, s) {
-        return true;
+        return 28;
     }
     if breaks_here(29, homes, doms, s) {
-        return true;
+        return 29;
     }
-    breaks_here(30, homes, doms, s)
+    if breaks_here(30, homes, doms, s) {
+        return 30;
+    }
+    31
 }
 
-// Whether some rule over effects is broken: a package that is accepted is searched once, not once for each rule.
-fn some_broken(t: tables::Tables, homes: &[u8; 127], doms: &[u32; 32]) -> bool
+// The lowest rule that is broken at some effect and the first that breaks it, in one pass: 31 and 0 where none is.
+fn lowest(t: tables::Tables, homes: &[u8; 127], doms: &[u32; 32]) -> Low
     requires { ⌜ Held t ⌝ }
     requires { ⌜ Rows (view t) (now homes) (now doms) ⌝ }
-    ensures { λ r. ⌜ r ≡ anyBelow (length (view t .effects)) (someAt (view t)) ⌝ }
+    ensures { λ r. ⌜ r ≡ lowestIn (view t) (length (view t .effects)) ⌝ }
 {
     let effects = t.effects;
     let fields = t.fields;
     let methods = t.methods;
     let n = effects.n;
+    let mut low = Low { rule: 31, at: 0 };
     for i in 0..n {
         let effect = effects.at[i];
         let m = wide(effect.method);
@@ -219,18 +227,26 @@ fn some_broken(t: tables::Tables, homes: &[u8; 127], doms: &[u32; 32]) -> bool
             field: field,
             called: called,
         };
-        if breaks_some(homes, doms, s) {
-            return true;
+        let r = lowest_here(homes, doms, s);
+        if r < low.rule {
+            low = Low { rule: r, at: i };
         }
     }
-    false
+    low
 }
 
-// One search for every rule over effects.
-fn first_effect(rule: u8, t: tables::Tables, homes: &[u8; 127], doms: &[u32; 32]) -> Found
+// One search for every rule over effects, begun at an effect before which none breaks it.
+fn first_effect(
+    rule: u8,
+    from: usize,
+    t: tables::Tables,
+    homes: &[u8; 127],
+    doms: &[u32; 32],
+) -> Found
     requires { ⌜ EffectRule rule ⌝ }
     requires { ⌜ Held t ⌝ }
     requires { ⌜ Rows (view t) (now homes) (now doms) ⌝ }
+    requires { ⌜ Unbroken rule (view t) from ⌝ }
     ensures { λ r. ⌜ r ≡ foundOf (firstEffect rule (view t)) ⌝ }
 {
     let effects = t.effects;
@@ -238,7 +254,7 @@ fn first_effect(rule: u8, t: tables::Tables, homes: &[u8; 127], doms: &[u32; 32]
     let methods = t.methods;
     let n = effects.n;
     let mut found = Found::Nothing;
-    'search: for i in 0..n {
+    'search: for i in from..n {
         let e = effects.at[i];
         let m = wide(e.method);
         let x = wide(e.number);
@@ -268,16 +284,10 @@ pub fn effect_rules(t: tables::Tables, homes: &[u8; 127], doms: &[u32; 32]) -> A
     requires { ⌜ Rows (view t) (now homes) (now doms) ⌝ }
     ensures { λ r. ⌜ r ≡ answerOf (firstFound (effectFindings (view t))) ⌝ }
 {
-    if !some_broken(t, homes, doms) {
-        return Answer {
-            number: 0,
-            first: 0,
-            second: 0,
-        };
-    }
-    for i in 0..5 {
-        let rule = EFFECT_RULES[i];
-        if let Found::At(a, b) = first_effect(rule, t, homes, doms) {
+    let low = lowest(t, homes, doms);
+    let rule = low.rule;
+    if rule != 31 {
+        if let Found::At(a, b) = first_effect(rule, low.at, t, homes, doms) {
             return Answer {
                 number: rule,
                 first: a as u16,

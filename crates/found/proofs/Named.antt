@@ -15,7 +15,7 @@ use Rattle.meaning.proofs.Search.{firstPlace-sound}
 use Rattle.found.specs.declared.Found.the-variants.{Nothing, At}
 use Rattle.found.specs.Found.{foundOf}
 
-nothing : (o : Option Place) → foundOf o ≡ Nothing → o ≡ none
+pub nothing : (o : Option Place) → foundOf o ≡ Nothing → o ≡ none
 nothing none e = refl
 nothing (some p) e = let z : _≡_ {A = ℕ} 0 1 = cc in absurd (omega arith)
 

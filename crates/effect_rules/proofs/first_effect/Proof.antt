@@ -1,5 +1,5 @@
 -- `effect_rules::first_effect` meets its contract. The invariants: no effect before i, and no place of effect i before j, breaks the
--- rule in any package that the tables at hand are of.
+-- rule in any package that the tables at hand are of, if none before the first that is looked at does.
 -- Assumes nothing.
 use Prim.Native.Nat.{ℕ, _≤_, _-_}
 use native.Mathlib.Nat.{le-refl, le-antisymm}
@@ -7,30 +7,31 @@ use native.Mathlib.Omega.{arith}
 use mathlib.Core.Path.{_≡_, refl, sym, ap, _∙_}
 use borrow.Author.Needs.{needs}
 use Rattle.meaning.specs.Tables.{Package}
-use Rattle.meaning.proofs.Search.{Clear, ClearRow, clear-none, row-none, row-more, clear-more, pair-none, pair-hit}
+use Rattle.meaning.proofs.Search.{Clear, ClearRow, row-none, row-more, clear-more, pair-none, pair-hit}
 use Rattle.tables.specs.View.{view}
 use Rattle.tables.proofs.Views.{held-fields, held-methods, held-effects}
 use Rattle.found.specs.Found.{foundOf}
 use Rattle.found.specs.declared.Found.the-variants.{Nothing}
 use Rattle.effect_rules.specs.Sites.{Seen}
-use Rattle.effect_rules.specs.Search.{breaksOf, secondsOf, firstEffect}
+use Rattle.effect_rules.specs.Search.{breaksOf, secondsOf, firstEffect, Unbroken}
 use Rattle.effect_rules.proofs.Turns.{Searched, siteAt, seen-at, places-most, row-all}
+use Rattle.effect_rules.proofs.Pass.{clear-to}
 use Rattle.effect_rules.proofs.first_effect.Statement.{statement}
 use Rattle.effect_rules.proofs.first_effect.Tie as tie
 
 abbrev Inv-loop : tie.InvT-loop
-Inv-loop rule homes doms effects fields methods n found₀ i m x s k j₀ found j =
+Inv-loop rule from homes doms effects fields methods n found₀ i m x s k j₀ found j =
     (j ≤ k) × (found ≡ Nothing) × ((P : Package) → Searched homes doms effects fields methods P → ClearRow (breaksOf rule P) i j)
 
 abbrev μ-loop : tie.MeasureT-loop
-μ-loop rule homes doms effects fields methods n found₀ i m x s k j₀ found j = k - j
+μ-loop rule from homes doms effects fields methods n found₀ i m x s k j₀ found j = k - j
 
 abbrev Inv-search : tie.InvT-search
-Inv-search rule homes doms effects fields methods n found₀ i₀ found i =
-    (i ≤ n) × (found ≡ Nothing) × ((P : Package) → Searched homes doms effects fields methods P → Clear (secondsOf rule P) (breaksOf rule P) i)
+Inv-search rule from homes doms effects fields methods n found₀ i₀ found i =
+    (i ≤ n) × (found ≡ Nothing) × ((P : Package) → Searched homes doms effects fields methods P → Unbroken rule P from → Clear (secondsOf rule P) (breaksOf rule P) i)
 
 abbrev μ-search : tie.MeasureT-search
-μ-search rule homes doms effects fields methods n found₀ i₀ found i = n - i
+μ-search rule from homes doms effects fields methods n found₀ i₀ found i = n - i
 
 -- where the search begins, with the tables of P before it
 abbrev Of : tie.Start Inv-loop μ-loop Inv-search μ-search → Package → Type 0
@@ -40,7 +41,7 @@ own : (s : tie.Start Inv-loop μ-loop Inv-search μ-search) → Of s (view (s .a
 own s =
     let t = s .args .t in
     let h = s .pre .1 .0 in
-    record { rows = s .pre .1 .1; of-effects = held-effects t h; of-fields = held-fields t h; of-methods = held-methods t h }
+    record { rows = s .pre .1 .1 .0; of-effects = held-effects t h; of-fields = held-fields t h; of-methods = held-methods t h }
 
 few : (s : tie.Start Inv-loop μ-loop Inv-search μ-search) → s .args .t .effects .n ≤ 1024
 few s = let h = own s .of-effects in omega arith
@@ -60,7 +61,9 @@ seen c P h =
     (c .before .before .before .before .before .wide .ensures .0) (c .before .before .before .before .wide2 .ensures .0)
 
 search-holds : tie.Need-search-holds Inv-loop μ-loop Inv-search μ-search
-search-holds c = (search needs, refl, λ P h. clear-none)
+search-holds c =
+    let s = c .before .before .before in
+    (omega (arith, own s .of-effects .count, s .pre .1 .1 .1 .within), refl, λ P h u. clear-to P (s .args .rule) (s .args .from) (u .before))
 
 mul-e : tie.Need-mul-e Inv-loop μ-loop Inv-search μ-search
 mul-e c = omega (arith, few (c .before .before .before .before .before))
@@ -126,8 +129,8 @@ search-again : tie.Need-search-again Inv-loop μ-loop Inv-search μ-search
 search-again c = (
   omega arith,
   c .before .loop .inv .1,
-  λ P h.
-      clear-more (c .before .before .before .before .before .before .before .before .before .before .search .inv .2 P h) (le-refl _) (le-refl _)
+  λ P h u.
+      clear-more (c .before .before .before .before .before .before .before .before .before .before .search .inv .2 P h u) (le-refl _) (le-refl _)
       (row-all (seen (c .before .before) P h) (c .before .before .before .before .before .before .before .before .before .before .before .before .before .before .args .rule) (c .before .loop .j) (le-antisymm (c .before .loop .inv .0) (c .loop-test .left) ∙ c .before .before .places .ensures) (c .before .loop .inv .2 P h)),
 )
 
@@ -135,7 +138,7 @@ returns : tie.Need-returns Inv-loop μ-loop Inv-search μ-search
 unfolding firstEffect
 returns c =
     let h = own (c .before .before .before .before .before) in
-    c .before .search .inv .1 ∙ ap foundOf (sym (pair-none (omega (arith, h .of-effects .count)) (omega (arith, h .of-effects .count)) (c .before .search .inv .2 (view (c .before .before .before .before .before .args .t)) h)))
+    c .before .search .inv .1 ∙ ap foundOf (sym (pair-none (omega (arith, h .of-effects .count)) (omega (arith, h .of-effects .count)) (c .before .search .inv .2 (view (c .before .before .before .before .before .args .t)) h (c .before .before .before .before .before .pre .1 .1 .1))))
 
 returns-2 : tie.Need-returns-2 Inv-loop μ-loop Inv-search μ-search
 unfolding firstEffect
@@ -148,7 +151,7 @@ returns-2 c =
     (pair-hit
     (a .declared)
     (places-most a (c .before .before .before .before .before .before .before .before .before .before .before .before .before .before .before .before .args .rule) (c .before .before .before .loop .j) (omega (arith, c .before .before .before .before .places .ensures)))
-    (c .before .before .before .before .before .before .before .before .before .before .before .before .search .inv .2 P h)
+    (c .before .before .before .before .before .before .before .before .before .before .before .before .search .inv .2 P h (c .before .before .before .before .before .before .before .before .before .before .before .before .before .before .before .before .pre .1 .1 .1))
     (c .before .before .before .loop .inv .2 P h)
     (sym (c .before .breaks .ensures P (c .before .before .before .before .before .before .before .before .before .before .before .before .search .i) a) ∙ c .if1 .taken)))
 

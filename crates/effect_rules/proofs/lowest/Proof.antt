@@ -1,27 +1,28 @@
--- `effect_rules::some_broken` meets its contract, as `first_effect` does: no effect before i breaks a rule in any package that the tables at
--- hand are of.
+-- `effect_rules::lowest` meets its contract, as `first_effect` does. The invariant: of the effects before i, it holds the lowest in any
+-- package that the tables at hand are of.
 -- Assumes nothing.
 use Prim.Native.Nat.{ℕ, _≤_, _-_}
 use native.Mathlib.Omega.{arith}
-use mathlib.Core.Path.{_≡_, sym, _∙_, subst}
+use mathlib.Core.Path.{_≡_, ap, _∙_}
+use mathlib.Core.Logic.{⊎-elim}
 use lib.ListN.{length}
 use borrow.Author.Needs.{needs}
 use Rattle.meaning.specs.Tables.{Package}
 use Rattle.tables.specs.View.{view}
 use Rattle.tables.proofs.Views.{held-fields, held-methods, held-effects}
 use Rattle.effect_rules.specs.Sites.{Seen}
-use Rattle.effect_rules.specs.Search.{someAt}
+use Rattle.effect_rules.specs.Search.{lowestIn}
 use Rattle.effect_rules.proofs.Turns.{Searched, siteAt, seen-at}
-use Rattle.effect_rules.proofs.Together.{NoneBefore, none-yet, none-more, none-below, some-below}
-use Rattle.effect_rules.proofs.some_broken.Statement.{statement}
-use Rattle.effect_rules.proofs.some_broken.Tie as tie
+use Rattle.effect_rules.proofs.Pass.{lowest-none, lowest-lower, lowest-same}
+use Rattle.effect_rules.proofs.lowest.Statement.{statement}
+use Rattle.effect_rules.proofs.lowest.Tie as tie
 
 abbrev Inv-loop : tie.InvT-loop
-Inv-loop homes doms effects fields methods n i₀ i =
-    (i ≤ n) × ((P : Package) → Searched homes doms effects fields methods P → NoneBefore (someAt P) i)
+Inv-loop homes doms effects fields methods n low₀ i₀ low i =
+    (i ≤ n) × ((P : Package) → Searched homes doms effects fields methods P → low ≡ lowestIn P i)
 
 abbrev μ-loop : tie.MeasureT-loop
-μ-loop homes doms effects fields methods n i₀ i = n - i
+μ-loop homes doms effects fields methods n low₀ i₀ low i = n - i
 
 -- where the search begins, with the tables of P before it
 abbrev Of : tie.Start Inv-loop μ-loop → Package → Type 0
@@ -50,7 +51,7 @@ seen c P h =
     seen-at h (turn c) (c .before .before .before .before .wide .result) (c .before .before .before .wide2 .result) (omega (arith, h .of-effects .count, c .before .before .before .before .before .before .loop-test .taken)) (c .before .before .before .before .wide .ensures .0) (c .before .before .before .wide2 .ensures .0)
 
 loop-holds : tie.Need-loop-holds Inv-loop μ-loop
-loop-holds c = (omega arith, λ P h. none-yet)
+loop-holds c = (omega arith, λ P h. lowest-none P)
 
 mul-effect : tie.Need-mul-effect Inv-loop μ-loop
 mul-effect c = omega (arith, few (c .before .before .before .before .before))
@@ -82,33 +83,33 @@ mul-called c = omega (arith, c .before .before .wide2 .ensures)
 element-copy-out-called : tie.Need-element-copy-out-called Inv-loop μ-loop
 element-copy-out-called c = c .before .before .wide2 .ensures .1
 
-breaks-some-requires : tie.Need-breaks-some-requires Inv-loop μ-loop
-breaks-some-requires c κs = (view (start c .args .t), turn c, seen c (view (start c .args .t)) (own (start c)))
-
-returns : tie.Need-returns Inv-loop μ-loop
-returns c =
-    let s = c .before .before .before .before .before .before .before .before .before .before .before .before .before in
-    let a = seen (c .before .before) (view (s .args .t)) (own s) in
-    sym (some-below (someAt (view (s .args .t))) (c .before .before .before .before .before .before .before .before .before .loop .i) (length (view (s .args .t) .effects)) (a .declared) (sym (c .before .breaks-some .ensures (view (s .args .t)) (c .before .before .before .before .before .before .before .before .before .loop .i) a) ∙ c .if1 .taken))
+lowest-here-requires : tie.Need-lowest-here-requires Inv-loop μ-loop
+lowest-here-requires c κs = (view (start c .args .t), turn c, seen c (view (start c .args .t)) (own (start c)))
 
 add-i : tie.Need-add-i Inv-loop μ-loop
-add-i c = omega (arith, few (c .before .before .before .before .before .before .before .before .before .before .before .before .before))
+add-i c = omega (arith, few (start (c .before .before .before)))
 
 loop-less : tie.Need-loop-less Inv-loop μ-loop
 loop-less c = omega arith
 
 loop-again : tie.Need-loop-again Inv-loop μ-loop
-loop-again c = (omega arith, λ P h. none-more (c .before .before .before .before .before .before .before .before .before .loop .inv .1 P h) (sym (c .before .breaks-some .ensures P (c .before .before .before .before .before .before .before .before .before .loop .i) (seen (c .before .before) P h)) ∙ c .if1 .left))
+loop-again c = (
+  omega arith,
+  λ P h.
+      let e = c .before .before .before .before .before .before .before .before .before .before .loop .inv .1 P h in
+      let q = c .before .before .lowest-here .ensures P (turn (c .before .before .before)) (seen (c .before .before .before) P h) in
+      ⊎-elim (λ w. w .1 ∙ lowest-lower P (turn (c .before .before .before)) e _ q (w .0 .taken)) (λ w. w .1 ∙ lowest-same P (turn (c .before .before .before)) e _ q (w .0 .left)) (c .if1 .came),
+)
 
-returns-2 : tie.Need-returns-2 Inv-loop μ-loop
-returns-2 c =
+returns : tie.Need-returns Inv-loop μ-loop
+returns c =
     let s = c .before .before .before .before .before in
     let h = own s in
     let q : c .before .loop .i ≡ length (view (s .args .t) .effects) = omega (arith, h .of-effects .count) in
-    sym (none-below (subst (NoneBefore (someAt (view (s .args .t)))) q (c .before .loop .inv .1 (view (s .args .t)) h)))
+    c .before .loop .inv .1 (view (s .args .t)) h ∙ ap (lowestIn (view (s .args .t))) q
 
-pub some-broken-spec : {M : Type 1} → statement M
-some-broken-spec =
+pub lowest-spec : {M : Type 1} → statement M
+lowest-spec =
     tie.close
     (tie.spec
     Inv-loop
@@ -124,9 +125,8 @@ some-broken-spec =
     element-copy-out-field
     mul-called
     element-copy-out-called
-    breaks-some-requires
-    returns
+    lowest-here-requires
     add-i
     loop-less
     loop-again
-    returns-2)
+    returns)

@@ -14,23 +14,24 @@ use Rattle.text.specs.Scan.{packFrame}
 use Rattle.text.proofs.Packed.{first-at}
 use Rattle.text.proofs.Rows.{row-counter}
 
+module _ (b : ℕ) {k : Kind} (r : k ≡ kindIn (rowOf b)) where
+  size-is : {size : ℕ} → size ≡ k .size → size ≡ (rowOf b) .size
+  size-is s = s ∙ ap (λ (x : Kind). x .size) r
+
+  at-is : {at : ℕ} → at ≡ k .counter → at ≡ (rowOf b) .counter
+  at-is a = a ∙ ap (λ (x : Kind). x .counter) r
+
+  pub counter-below : {at : ℕ} → at ≡ k .counter → at < 16
+  counter-below a = rw (at-is a) (row-counter b)
+
 module _ (f : Frame) {k : Kind} {size at : ℕ} (r : k ≡ kindIn (rowOf (byte (f .b) 0))) (s : size ≡ k .size) (a : at ≡ k .counter) where
-  size-is : size ≡ (rowOf (byte (f .b) 0)) .size
-  size-is = s ∙ ap (λ (x : Kind). x .size) r
-
-  at-is : at ≡ (rowOf (byte (f .b) 0)) .counter
-  at-is = a ∙ ap (λ (x : Kind). x .counter) r
-
-  pub counter-below : at < 16
-  counter-below = rw at-is (row-counter (byte (f .b) 0))
-
   pub fits-fixed : at ≡ 0 → eqb (f .n) size ≡ fitsFrame f
   unfolding fitsFrame lengthOf
-  fits-fixed z = rw (size-is, eq-eqb ((rowOf (byte (f .b) 0)) .counter) 0 (sym at-is ∙ z))
+  fits-fixed z = rw (size-is _ r s, eq-eqb ((rowOf (byte (f .b) 0)) .counter) 0 (sym (at-is _ r a) ∙ z))
 
   pub fits-counted : (x : ℕ) → (at ≡ 0 → ⊥) → x ≡ byte (f .b) at → eqb (f .n) (size + x) ≡ fitsFrame f
   unfolding fitsFrame lengthOf
-  fits-counted x z e = rw (e, size-is, at-is, ne-eqb ((rowOf (byte (f .b) 0)) .counter) 0 (λ h. z (at-is ∙ h)))
+  fits-counted x z e = rw (e, size-is _ r s, at-is _ r a, ne-eqb ((rowOf (byte (f .b) 0)) .counter) 0 (λ h. z (at-is _ r a ∙ h)))
 
 -- the first 16 bytes are enough
 pub fits-packed : (f : List ℕ) → fitsFrame (packFrame f) ≡ fits f

@@ -62,18 +62,34 @@ fn row_of(b: u8) -> Kind
     }
 }
 
-// Whether a frame has the length that its kind and its count byte ask for.
-pub fn fits(f: Frame) -> bool
-    ensures { λ r. ⌜ r ≡ fitsFrame f ⌝ }
+// The same, for a number that is mostly this kind.
+fn row_as(kind: u8, b: u8) -> Kind
+    ensures { λ r. ⌜ r ≡ kindIn (rowOf b) ⌝ }
 {
-    let n = f.n;
-    let k = row_of(f.b[0]);
+    if b == kind {
+        return row_of(kind);
+    }
+    kind_of(b)
+}
+
+// Whether a frame, of these first bytes and this length, has the length that its kind and its count byte ask for. It is mostly of this kind.
+pub fn fits_as(kind: u8, b: &[u8; 16], n: usize) -> bool
+    ensures { λ r. ⌜ r ≡ fitsFrame (record { b = now (b .entry); n = n }) ⌝ }
+{
+    let k = row_as(kind, b[0]);
     let size = wide(k.size);
     let at = wide(k.counter);
     if at == 0 {
         return n == size;
     }
-    n == size + wide(f.b[at])
+    n == size + wide(b[at])
+}
+
+// The same for a frame of any kind.
+pub fn fits(f: Frame) -> bool
+    ensures { λ r. ⌜ r ≡ fitsFrame f ⌝ }
+{
+    fits_as(f.b[0], &f.b, f.n)
 }
 
 // The value of each character as a digit, 16 for a character that is none. It is made once for a text.

@@ -7,7 +7,16 @@ use mathlib.Core.Option.{Option, none, some}
 use mathlib.Core.List.{List}
 use Rattle.meaning.specs.Text.{frameAt, behind}
 use Rattle.text.specs.declared.Cut.{Cut}
-use Rattle.text.specs.Scan.{packFrame, noCut, cutBy, cutAt}
+use Rattle.text.specs.declared.Line.{Line}
+use Rattle.text.specs.Scan.{packFrame, noCut, lineIn, cutBy, cutAt}
+
+-- what is said of a cut in two parts is said of the same cut
+pub said-as : {x y : Cut} {r : Line} {b : List ℕ} → (r ≡ lineIn x) × (b ≡ x .frame .b) → x ≡ y → (r ≡ lineIn y) × (b ≡ y .frame .b)
+said-as w e = (w .0 ∙ ap lineIn e, w .1 ∙ ap (λ (x : Cut). x .frame .b) e)
+
+-- and the two parts are the cut
+pub said-cut : {c : Cut} {r : Line} {b : List ℕ} → (r ≡ lineIn c) × (b ≡ c .frame .b) → record { ok = r .ok; frame = record { b = b; n = r .n }; next = r .next } ≡ c
+said-cut w = λ i. record { ok = w .0 i .ok; frame = record { b = w .1 i; n = w .0 i .n }; next = w .0 i .next }
 
 pub record Taken (s : List ℕ) (at : ℕ) (r : Cut) : Type 0 where
   pub f : List ℕ

@@ -12,7 +12,6 @@ use lib.ListN.{length, getD, set, length-append}
 use borrow.Author.Tests.{lt-ltb, le-ltb, eq-eqb, ne-eqb}
 use Rattle.meaning.specs.Text.{isDigit, notEmpty, frameAt, behind}
 use Rattle.meaning.proofs.Reading.{spelt, Going, go-start, go-on, go-end, go-high, go-low, go-short, go-none}
-use Rattle.text.specs.declared.Cut.{Cut}
 use Rattle.text.specs.Scan.{firstBytes, noCut, cutBy, cutAt, closedAt}
 use Rattle.text.proofs.Values.{Lacks, short, no-high, no-low}
 use Rattle.text.proofs.Packed.{first-more, first-full}
@@ -24,8 +23,8 @@ pub record Scanning (s : List ℕ) (at : ℕ) (b : List ℕ) (n i : ℕ) : Type 
   pub count : n ≡ length f
   pub going : Going s at i f
 
-pub scan-start : {s : List ℕ} {at : ℕ} → Scanning s at (firstBytes 16 []) 0 at
-scan-start = record { f = []; first = refl; count = refl; going = go-start }
+pub scan-start : {s : List ℕ} {at : ℕ} {b : List ℕ} → b ≡ firstBytes 16 [] → Scanning s at b 0 at
+scan-start e = record { f = []; first = e; count = refl; going = go-start }
 
 module _ {s : List ℕ} {at : ℕ} {b : List ℕ} {n i : ℕ} (g : Scanning s at b n i) where
   -- a byte more, stored where there is room
@@ -53,9 +52,9 @@ module _ {s : List ℕ} {at : ℕ} {b : List ℕ} {n i : ℕ} (g : Scanning s at
       on (x ∷ f) p q r = λ j. record { ok = true; frame = record { b = p j; n = q j }; next = r j }
 
   -- a line that breaks the rule
-  pub cut-bad : {r : Cut} → r ≡ noCut at → frameAt s at ≡ none → r ≡ cutAt s at
+  cut-bad : frameAt s at ≡ none → noCut at ≡ cutAt s at
   unfolding cutAt
-  cut-bad e h = e ∙ ap (cutBy at) (sym h)
+  cut-bad h = ap (cutBy at) (sym h)
 
   -- as one with an LF behind no digits
   pub no-digits : i < length s → getD s i 0 ≡ 10 → n ≡ 0 → frameAt s at ≡ none
@@ -76,11 +75,11 @@ module _ {s : List ℕ} {at : ℕ} {b : List ℕ} {n i : ℕ} (g : Scanning s at
       none-more h f (no-low l e) = go-low (g .going) l f e
 
       on : Dec (i < length s) → Dec (getD s i 0 ≡ 10) → Dec (n ≡ 0) → closedAt s at i (record { b = b; n = n }) ≡ cutAt s at
-      on (no k) _ _ = let l : length s ≤ i = omega arith in rw (le-ltb i (length s) l) (cut-bad refl (go-none (g .going) l))
-      on (yes h) (no f) _ = rw (lt-ltb i (length s) h, ne-eqb (getD s i 0) 10 f) (cut-bad refl (none-more h f w))
-      on (yes h) (yes e) (yes z) = rw (lt-ltb i (length s) h, eq-eqb (getD s i 0) 10 e, eq-eqb n 0 z) (cut-bad refl (no-digits h e z))
+      on (no k) _ _ = let l : length s ≤ i = omega arith in rw (le-ltb i (length s) l) (cut-bad (go-none (g .going) l))
+      on (yes h) (no f) _ = rw (lt-ltb i (length s) h, ne-eqb (getD s i 0) 10 f) (cut-bad (none-more h f w))
+      on (yes h) (yes e) (yes z) = rw (lt-ltb i (length s) h, eq-eqb (getD s i 0) 10 e, eq-eqb n 0 z) (cut-bad (no-digits h e z))
       on (yes h) (yes e) (no f) = rw (lt-ltb i (length s) h, eq-eqb (getD s i 0) 10 e, ne-eqb n 0 f) (cut-got h e f)
 
 -- no line begins behind the text
-pub cut-none : (s : List ℕ) (at : ℕ) {r : Cut} → r ≡ noCut at → length s ≤ at → r ≡ cutAt s at
-cut-none s at e l = cut-bad (scan-start {s = s} {at = at}) e (go-none (go-start {s = s} {at = at}) l)
+pub cut-none : (s : List ℕ) (at : ℕ) → length s ≤ at → noCut at ≡ cutAt s at
+cut-none s at l = cut-bad (scan-start {s = s} {at = at} refl) (go-none (go-start {s = s} {at = at}) l)

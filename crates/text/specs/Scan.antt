@@ -9,6 +9,7 @@ use lib.ListN.{length, getD}
 use Rattle.meaning.specs.Text.{frameAt, behind}
 use Rattle.text.specs.declared.Frame.{Frame}
 use Rattle.text.specs.declared.Cut.{Cut}
+use Rattle.text.specs.declared.Line.{Line}
 
 -- the first n bytes; zeros where there are fewer
 unfoldable pub firstBytes : ℕ → List ℕ → List ℕ
@@ -23,6 +24,10 @@ packFrame f = record { b = firstBytes 16 f; n = length f }
 unfoldable pub noCut : ℕ → Cut
 unfolding firstBytes
 noCut at = record { ok = false; frame = packFrame []; next = at }
+
+-- what a cut says beside its frame's first bytes
+abbrev pub lineIn : Cut → Line
+lineIn c = record { ok = c .ok; n = c .frame .n; next = c .next }
 
 abbrev pub cutBy : ℕ → Option (List ℕ) → Cut
 cutBy at none = noCut at

@@ -5,7 +5,7 @@ ghost use lib.ListN.{length, set};
 ghost use Rattle.meaning.specs.Text.{hexDigit};
 ghost use Rattle.meaning.specs.Kinds.{rowOf};
 ghost use Rattle.text.specs.Fits.{kindIn, fitsFrame};
-ghost use Rattle.text.specs.Scan.{noCut, cutAt, closedAt};
+ghost use Rattle.text.specs.Scan.{noCut, lineIn, cutAt, closedAt};
 ghost use Rattle.text.specs.Values.{digitTable, byteAt};
 use crate::kinds::CLASS;
 use crate::kinds::EFFECT;
@@ -28,6 +28,13 @@ pub struct Frame {
 pub struct Cut {
     pub ok: bool,
     pub frame: Frame,
+    pub next: usize,
+}
+
+// What is said of a line whose frame's first bytes lie elsewhere: whether it keeps the line rule, its frame's length, and where the next one begins.
+pub struct Line {
+    pub ok: bool,
+    pub n: usize,
     pub next: usize,
 }
 
@@ -92,29 +99,21 @@ pub fn fits(f: Frame) -> bool
     fits_as(f.b[0], &f.b, f.n)
 }
 
-// The value of each character as a digit, 16 for a character that is none. It is made once for a text.
-pub fn digits() -> [u8; 256]
+// What each character counts as the high digit of a byte, and behind them as the low one: 256 where it is no digit. It is made once for a text.
+pub fn digits() -> [u16; 512]
     ensures { λ r. ⌜ r ≡ digitTable ⌝ }
 {
-    let mut values = [16u8; 256];
+    let mut values = [256u16; 512];
     for v in 0..16 {
-        values[wide(hex_digit(v))] = v;
+        let c = wide(hex_digit(v));
+        values[c] = (v as u16) * 16;
+        values[256 + c] = v as u16;
     }
     values
 }
 
-fn no_cut(at: usize) -> Cut
-    ensures { λ r. ⌜ r ≡ noCut at ⌝ }
-{
-    Cut {
-        ok: false,
-        frame: Frame { b: [0u8; 16], n: 0 },
-        next: at,
-    }
-}
-
-// The byte that two digits at a place spell; 256 where there are no two digits.
-fn byte_at(digits: &[u8; 256], s: &[u8], i: usize) -> u16
+// What the two characters at a place count together: the byte that they spell, and more than 255 where they are no two digits.
+fn byte_at(digits: &[u16; 512], s: &[u8], i: usize) -> u16
     requires { ⌜ now digits ≡ digitTable ⌝ }
     requires { ⌜ i ≤ length (now s) ⌝ }
     ensures { λ r. ⌜ r ≡ byteAt (now (s .entry)) i ⌝ }
@@ -122,52 +121,59 @@ fn byte_at(digits: &[u8; 256], s: &[u8], i: usize) -> u16
     if s.len() <= i + 1 {
         return 256;
     }
-    let high = digits[wide(s[i])];
-    let low = digits[wide(s[i + 1])];
-    if 15 < high {
-        return 256;
-    }
-    if 15 < low {
-        return 256;
-    }
-    (high * 16 + low) as u16
+    digits[wide(s[i])] + digits[256 + wide(s[i + 1])]
 }
 
-// A line whose digits end at i: an LF must stand there, and a byte before it.
-fn closed(s: &[u8], at: usize, i: usize, frame: Frame) -> Cut
-    ensures { λ r. ⌜ r ≡ closedAt (now (s .entry)) at i frame ⌝ }
+// No line at a place, with a frame of no bytes.
+pub fn no_line(at: usize, b: &mut [u8; 16]) -> Line
+    ensures { λ r. ⌜ r ≡ lineIn (noCut at) ⌝ }
+    ensures { λ _. ⌜ now (b .exit) ≡ noCut at .frame .b ⌝ }
+{
+    *b = [0u8; 16];
+    Line {
+        ok: false,
+        n: 0,
+        next: at,
+    }
+}
+
+// A line whose digits end at i, of n bytes: an LF must stand there, and a byte before it.
+fn closed(s: &[u8], at: usize, i: usize, n: usize, b: &mut [u8; 16]) -> Line
+    ensures { λ r. ⌜ r ≡ lineIn (closedAt (now (s .entry)) at i (record { b = now (b .entry); n = n })) ⌝ }
+    ensures { λ _. ⌜ now (b .exit) ≡ closedAt (now (s .entry)) at i (record { b = now (b .entry); n = n }) .frame .b ⌝ }
 {
     if s.len() <= i {
-        return no_cut(at);
+        return no_line(at, b);
     }
     if s[i] != 10 {
-        return no_cut(at);
+        return no_line(at, b);
     }
-    if frame.n == 0 {
-        return no_cut(at);
+    if n == 0 {
+        return no_line(at, b);
     }
-    Cut {
+    Line {
         ok: true,
-        frame,
+        n,
         next: i + 1,
     }
 }
 
-// The line that begins at a place, by the values of the digits.
-pub fn scan_by(digits: &[u8; 256], s: &[u8], at: usize) -> Cut
+// The line that begins at a place, by the values of the digits; its frame's first bytes go where the caller lends room for them.
+pub fn scan_into(digits: &[u16; 512], s: &[u8], at: usize, b: &mut [u8; 16]) -> Line
     requires { ⌜ now digits ≡ digitTable ⌝ }
-    ensures { λ r. ⌜ r ≡ cutAt (now (s .entry)) at ⌝ }
+    ensures { λ r. ⌜ r ≡ lineIn (cutAt (now (s .entry)) at) ⌝ }
+    ensures { λ _. ⌜ now (b .exit) ≡ cutAt (now (s .entry)) at .frame .b ⌝ }
 {
+    let none = no_line(at, b);
     if s.len() <= at {
-        return no_cut(at);
+        return none;
     }
-    let mut b = [0u8; 16];
     let mut n: usize = 0;
     let mut i = at;
     loop {
         let v = byte_at(digits, s, i);
         if 255 < v {
-            return closed(s, at, i, Frame { b, n });
+            return closed(s, at, i, n, b);
         }
         if n < 16 {
             b[n] = v as u8;
@@ -177,12 +183,18 @@ pub fn scan_by(digits: &[u8; 256], s: &[u8], at: usize) -> Cut
     }
 }
 
-// The same for a single line.
-pub fn scan(s: &[u8], at: usize) -> Cut
+// The same as one value.
+pub fn scan_by(digits: &[u16; 512], s: &[u8], at: usize) -> Cut
+    requires { ⌜ now digits ≡ digitTable ⌝ }
     ensures { λ r. ⌜ r ≡ cutAt (now (s .entry)) at ⌝ }
 {
-    let values = digits();
-    scan_by(&values, s, at)
+    let mut b = [0u8; 16];
+    let line = scan_into(digits, s, at, &mut b);
+    Cut {
+        ok: line.ok,
+        frame: Frame { b, n: line.n },
+        next: line.next,
+    }
 }
 
 // The digit of a number below 16.

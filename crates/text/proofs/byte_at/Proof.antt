@@ -1,6 +1,7 @@
--- `text::byte_at` meets its contract. One test after the other.
+-- `text::byte_at` meets its contract: the two values are looked up.
 -- Assumes nothing.
-use Rattle.text.proofs.Values.{looked, byte-short, byte-high, byte-low, byte-two}
+use native.Mathlib.Omega.{arith}
+use Rattle.text.proofs.Values.{looked-high, looked-low, byte-short, byte-sum, sum-small}
 use borrow.Author.Needs.{needs}
 use Rattle.text.proofs.byte_at.Statement.{statement}
 use Rattle.text.proofs.byte_at.Tie as tie
@@ -17,8 +18,11 @@ shared-slice-read-wide c = search needs
 wide-requires : tie.Need-wide-requires
 wide-requires c κs = search needs
 
-element-copy-out-high : tie.Need-element-copy-out-high
-element-copy-out-high c = search needs
+mul-result : tie.Need-mul-result
+mul-result c = search needs
+
+element-copy-out-result : tie.Need-element-copy-out-result
+element-copy-out-result c = search needs
 
 add-wide : tie.Need-add-wide
 add-wide c = search needs
@@ -29,27 +33,28 @@ shared-slice-read-wide-2 c = search needs
 wide-requires-2 : tie.Need-wide-requires-2
 wide-requires-2 c κs = search needs
 
-element-copy-out-low : tie.Need-element-copy-out-low
-element-copy-out-low c = search needs
-
-returns-2 : tie.Need-returns-2
-returns-2 c = byte-high _ _ (looked (c .before .before .before .before .before .before .before .before .before .pre .0) _ _ (c .before .before .before .before .before .wide .ensures .0) (c .before .before .before .before .before .wide .ensures .1)) (c .if2 .taken)
-
-returns-3 : tie.Need-returns-3
-returns-3 c = byte-low _ _ (looked (c .before .before .before .before .before .before .before .before .before .before .pre .0) _ _ (c .before .before .before .wide2 .ensures .0) (c .before .before .before .wide2 .ensures .1)) (c .if3 .taken)
-
-mul-result : tie.Need-mul-result
-mul-result c = search needs
-
 add-result : tie.Need-add-result
 add-result c = search needs
 
-cast-result : tie.Need-cast-result
-cast-result c = search needs
+mul-result-2 : tie.Need-mul-result-2
+mul-result-2 c = search needs
 
-returns-4 : tie.Need-returns-4
-returns-4 c =
-    byte-two _ _ (c .before .before .before .before .before .before .before .before .if1 .left) (looked (c .before .before .before .before .before .before .before .before .before .before .pre .0) _ _ (c .before .before .before .before .before .before .wide .ensures .0) (c .before .before .before .before .before .before .wide .ensures .1)) (looked (c .before .before .before .before .before .before .before .before .before .before .pre .0) _ _ (c .before .before .before .wide2 .ensures .0) (c .before .before .before .wide2 .ensures .1)) (c .before .if2 .left) (c .if3 .left)
+element-copy-out-result-2 : tie.Need-element-copy-out-result-2
+element-copy-out-result-2 c = search needs
+
+add-result-2 : tie.Need-add-result-2
+add-result-2 c =
+    let w = c .before .before .before .before .wide .ensures in
+    let v = c .before .wide2 .ensures in
+    let p = c .before .before .before .before .before .before .before .before .pre .0 in
+    omega (arith, sum-small _ _ (looked-high p _ _ (w .0) (w .1)) (looked-low p _ _ (v .0) (v .1)))
+
+returns-2 : tie.Need-returns-2
+returns-2 c =
+    let w = c .before .before .before .before .wide .ensures in
+    let v = c .before .wide2 .ensures in
+    let p = c .before .before .before .before .before .before .before .before .pre .0 in
+    byte-sum _ _ (c .before .before .before .before .before .before .if1 .left) (looked-high p _ _ (w .0) (w .1)) (looked-low p _ _ (v .0) (v .1))
 
 pub byte-at-spec : {M : Type 1} → statement M
 byte-at-spec =
@@ -59,14 +64,13 @@ byte-at-spec =
     returns
     shared-slice-read-wide
     wide-requires
-    element-copy-out-high
+    mul-result
+    element-copy-out-result
     add-wide
     shared-slice-read-wide-2
     wide-requires-2
-    element-copy-out-low
-    returns-2
-    returns-3
-    mul-result
     add-result
-    cast-result
-    returns-4)
+    mul-result-2
+    element-copy-out-result-2
+    add-result-2
+    returns-2)

@@ -1,11 +1,11 @@
--- `text::digits` meets its contract: the digits below v are stored, and 16 elsewhere.
+-- `text::digits` meets its contract: the digits below v are stored, and 256 elsewhere.
 -- Assumes nothing.
 use Prim.Native.Nat.{_≤_, _-_}
 use native.Mathlib.Omega.{arith}
 use native.Mathlib.Nat.{le-antisymm}
 use mathlib.Core.Path.{_≡_, refl, ap, _∙_}
-use borrow.Author.Needs.{needs}
 use Rattle.text.proofs.Values.{stored, stored-more, stored-all}
+use borrow.Author.Needs.{needs}
 use Rattle.text.proofs.digits.Statement.{statement}
 use Rattle.text.proofs.digits.Tie as tie
 
@@ -25,8 +25,29 @@ hex-digit-requires c κs = search needs
 wide-requires : tie.Need-wide-requires Inv-loop μ-loop
 wide-requires c κs = search needs
 
+cast-values : tie.Need-cast-values Inv-loop μ-loop
+cast-values c = search needs
+
+mul-values : tie.Need-mul-values Inv-loop μ-loop
+mul-values c = search needs
+
+mul-values-2 : tie.Need-mul-values-2 Inv-loop μ-loop
+mul-values-2 c = search needs
+
 array-write-values : tie.Need-array-write-values Inv-loop μ-loop
-array-write-values c = c .wide .ensures .1
+array-write-values c = search needs
+
+cast-values-2 : tie.Need-cast-values-2 Inv-loop μ-loop
+cast-values-2 c = search needs
+
+add-values : tie.Need-add-values Inv-loop μ-loop
+add-values c = search needs
+
+mul-values-3 : tie.Need-mul-values-3 Inv-loop μ-loop
+mul-values-3 c = search needs
+
+array-write-values-2 : tie.Need-array-write-values-2 Inv-loop μ-loop
+array-write-values-2 c = search needs
 
 add-v : tie.Need-add-v Inv-loop μ-loop
 add-v c = search needs
@@ -49,7 +70,14 @@ digits-spec =
     loop-holds
     hex-digit-requires
     wide-requires
+    cast-values
+    mul-values
+    mul-values-2
     array-write-values
+    cast-values-2
+    add-values
+    mul-values-3
+    array-write-values-2
     add-v
     loop-less
     loop-again

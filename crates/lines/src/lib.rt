@@ -1,10 +1,11 @@
 // Where a reader stands in a text, and the line there: what the readers of both texts share.
 use text::Cut;
 use text::Frame;
+use text::Line;
 ghost use mathlib.Core.Path.{_≡_};
 ghost use Prim.Native.Nat.{_≤_, _<_};
 ghost use Rattle.meaning.specs.Kinds.{rowOf};
-ghost use Rattle.text.specs.Scan.{noCut};
+ghost use Rattle.text.specs.Scan.{lineIn};
 ghost use Rattle.text.specs.Values.{digitTable};
 ghost use Rattle.lines.specs.Cursors.{Within, movedTo, lineOf, behindEnd, lastOf};
 
@@ -33,53 +34,59 @@ pub fn moved(c: Cursor, at: usize) -> Cursor
     }
 }
 
-fn no_line(at: usize) -> Cut
-    ensures { λ r. ⌜ r ≡ noCut at ⌝ }
+// The next line, where none is refused yet, it keeps the line rule, and its kind is of this section. It is read by the values of the digits; and of
+// a section that has the number of a kind, which most of its lines are of. Its frame's first bytes go where the caller lends room for them.
+pub fn line_into(digits: &[u16; 512], s: &[u8], c: Cursor, section: u8, b: &mut [u8; 16]) -> Line
+    requires { ⌜ now digits ≡ digitTable ⌝ }
+    requires { ⌜ rowOf section .section ≡ section ⌝ }
+    ensures { λ r. ⌜ r ≡ lineIn (lineOf (now (s .entry)) c section) ⌝ }
+    ensures { λ _. ⌜ now (b .exit) ≡ lineOf (now (s .entry)) c section .frame .b ⌝ }
 {
-    Cut {
-        ok: false,
-        frame: Frame { b: [0u8; 16], n: 0 },
-        next: at,
+    let at = c.at;
+    if c.no != 0 {
+        return text::no_line(at, b);
     }
+    let line = text::scan_into(digits, s, at, b);
+    let ok = line.ok;
+    if !ok {
+        return line;
+    }
+    let x = b[0];
+    if x == section {
+        return line;
+    }
+    let kind = text::kind_of(x);
+    if kind.section != section {
+        return text::no_line(at, b);
+    }
+    line
 }
 
-// The next line, where none is refused yet, it keeps the line rule, and its kind is of this section. It is read by the values of the digits; and of
-// a section that has the number of a kind, which most of its lines are of.
-pub fn line_by(digits: &[u8; 256], s: &[u8], c: Cursor, section: u8) -> Cut
+// The same as one value.
+pub fn line_by(digits: &[u16; 512], s: &[u8], c: Cursor, section: u8) -> Cut
     requires { ⌜ now digits ≡ digitTable ⌝ }
     requires { ⌜ rowOf section .section ≡ section ⌝ }
     ensures { λ r. ⌜ r ≡ lineOf (now (s .entry)) c section ⌝ }
 {
-    let at = c.at;
-    if c.no != 0 {
-        return no_line(at);
+    let mut b = [0u8; 16];
+    let line = line_into(digits, s, c, section, &mut b);
+    Cut {
+        ok: line.ok,
+        frame: Frame { b, n: line.n },
+        next: line.next,
     }
-    let cut = text::scan_by(digits, s, at);
-    let ok = cut.ok;
-    if !ok {
-        return cut;
-    }
-    let f = cut.frame;
-    let b = f.b[0];
-    if b == section {
-        return cut;
-    }
-    let kind = text::kind_of(b);
-    if kind.section != section {
-        return no_line(at);
-    }
-    cut
 }
 
 // What stands behind the last line: nothing, or a line that is refused.
-fn behind(s: &[u8], at: usize, base: u8) -> u8
+fn behind(digits: &[u16; 512], s: &[u8], at: usize, base: u8) -> u8
+    requires { ⌜ now digits ≡ digitTable ⌝ }
     requires { ⌜ base ≤ 50 ⌝ }
     ensures { λ r. ⌜ r ≡ behindEnd base (now (s .entry)) at ⌝ }
 {
     if s.len() <= at {
         return 0;
     }
-    let cut = text::scan(s, at);
+    let cut = text::scan_by(digits, s, at);
     let ok = cut.ok;
     if !ok {
         return base + 2;
@@ -88,7 +95,8 @@ fn behind(s: &[u8], at: usize, base: u8) -> u8
 }
 
 // The last line, of this kind, behind which nothing may stand. The numbers of its refusals are a package's, and `base` more in a run text.
-pub fn last_line(s: &[u8], c: Cursor, kind: u8, base: u8) -> Cursor
+pub fn last_line(digits: &[u16; 512], s: &[u8], c: Cursor, kind: u8, base: u8) -> Cursor
+    requires { ⌜ now digits ≡ digitTable ⌝ }
     requires { ⌜ Within (now s) c ⌝ }
     requires { ⌜ base ≤ 50 ⌝ }
     ensures { λ r. ⌜ r ≡ lastOf base kind (now (s .entry)) c ⌝ }
@@ -102,7 +110,7 @@ pub fn last_line(s: &[u8], c: Cursor, kind: u8, base: u8) -> Cursor
         let no = base + 9;
         return Cursor { at, line, no };
     }
-    let cut = text::scan(s, at);
+    let cut = text::scan_by(digits, s, at);
     let ok = cut.ok;
     if !ok {
         let no = base + 2;
@@ -121,6 +129,6 @@ pub fn last_line(s: &[u8], c: Cursor, kind: u8, base: u8) -> Cursor
     Cursor {
         at: next,
         line: line + 1,
-        no: behind(s, next, base),
+        no: behind(digits, s, next, base),
     }
 }

@@ -12,8 +12,8 @@ pub struct Declared {
     pub classes: usize,
     pub fields: usize,
     pub methods: usize,
-    pub field: u8,
-    pub method: u8,
+    pub field: u16,
+    pub method: u16,
 }
 
 pub fn no_effects() -> Effects

@@ -35,6 +35,6 @@ pub fn field_of(f: Frame) -> Field
     Field {
         class: f.b[1],
         typ: f.b[2],
-        stat: f.b[3],
+        stat: f.b[3] as u16,
     }
 }

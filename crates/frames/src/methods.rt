@@ -68,7 +68,7 @@ pub fn method_of(f: Frame) -> Method
     Method {
         class: f.b[1],
         label: f.b[2],
-        stat: f.b[3],
+        stat: f.b[3] as u16,
         slot: slot_of(f),
         result: f.b[6],
         k: f.b[7],

@@ -19,7 +19,7 @@ fn is_field(x: Field, c: u8, t: u8, s: u8) -> bool
     if x.typ != t {
         return false;
     }
-    x.stat == s
+    x.stat == (s as u16)
 }
 
 // Whether a field has this class, type and static byte.

@@ -16,14 +16,14 @@ pub struct Named {
     pub classes: usize,
     pub fields: usize,
     pub methods: usize,
-    pub field: u8,
-    pub called: u8,
+    pub field: u16,
+    pub called: u16,
     pub k: u8,
-    pub runs: u8,
+    pub runs: u16,
 }
 
 // One of n, whose static byte is s.
-fn is_static(n: usize, x: u8, byte: u8, s: u8) -> bool
+fn is_static(n: usize, x: u8, byte: u16, s: u16) -> bool
     ensures { λ r. ⌜ r ≡ static n x byte s ⌝ }
 {
     tests::below(x, n) & (byte == s)

@@ -13,18 +13,19 @@ pub struct Class {
     pub supers: [u8; 4],
 }
 
-// 04 cc tt ss
+// 04 cc tt ss. The static byte is as wide as a method's.
 pub struct Field {
     pub class: u8,
     pub typ: u8,
-    pub stat: u8,
+    pub stat: u16,
 }
 
-// 05 cc ll ss hh hh rr k p..
+// 05 cc ll ss hh hh rr k p.. The static byte is held in two: with one, a method would have a byte of padding, and a table of empty ones
+// could not be filled at once, which is a quarter of the time of the smallest package.
 pub struct Method {
     pub class: u8,
     pub label: u8,
-    pub stat: u8,
+    pub stat: u16,
     pub slot: u16,
     pub result: u8,
     pub k: u8,

@@ -16,7 +16,7 @@ pub struct EffectsRead {
 }
 
 pub(crate) fn read_effects(
-    digits: &[u8; 256],
+    digits: &[u16; 512],
     s: &[u8],
     from: Cursor,
     nc: usize,

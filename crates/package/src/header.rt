@@ -1,6 +1,7 @@
 // Line 1.
 use lines::Cursor;
 ghost use mathlib.Core.Path.{_≡_};
+ghost use Rattle.text.specs.Values.{digitTable};
 ghost use Rattle.package.specs.Sections.{HeaderRead, noHeader};
 
 pub struct Header {
@@ -19,13 +20,14 @@ fn no_header(no: u8) -> Header
     }
 }
 
-pub(crate) fn read_header(s: &[u8]) -> Header
+pub(crate) fn read_header(digits: &[u16; 512], s: &[u8]) -> Header
+    requires { ⌜ now digits ≡ digitTable ⌝ }
     ensures { λ r. ⌜ HeaderRead (now (s .entry)) r ⌝ }
 {
     if s.len() == 0 {
         return no_header(9);
     }
-    let cut = text::scan(s, 0);
+    let cut = text::scan_by(digits, s, 0);
     let ok = cut.ok;
     if !ok {
         return no_header(2);

@@ -47,7 +47,7 @@ pub fn read(s: &[u8]) -> Reading
         return refused(1, 0);
     }
     let digits = text::digits();
-    let h = header::read_header(s);
+    let h = header::read_header(&digits, s);
     let nd = h.domains;
     let p = pairs::read_pairs(&digits, s, h.next, nd);
     let c = classes::read_classes(&digits, s, p.next, nd);
@@ -55,7 +55,7 @@ pub fn read(s: &[u8]) -> Reading
     let f = fields::read_fields(&digits, s, c.next, nc);
     let m = methods::read_methods(&digits, s, f.next, nd, nc);
     let e = effects::read_effects(&digits, s, m.next, nc, f.fields, m.methods);
-    let end = lines::last_line(s, e.next, 7, 0);
+    let end = lines::last_line(&digits, s, e.next, 7, 0);
     if end.no != 0 {
         return refused(end.no, end.line + 1);
     }

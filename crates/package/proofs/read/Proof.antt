@@ -36,15 +36,15 @@ read-methods-requires : tie.Need-read-methods-requires
 read-methods-requires c κs = search needs
 
 read-effects-requires : tie.Need-read-effects-requires
-read-effects-requires c κs = (c .before .read-methods .ensures .going .within, c .before .before .before .before .before .before .before .before .before .before .digits .ensures)
+read-effects-requires c κs = (c .before .read-methods .ensures .going .within, c .before .before .before .before .before .before .before .before .before .before .before .digits .ensures)
 
 last-line-requires : tie.Need-last-line-requires
-last-line-requires c κs = (c .read-effects .ensures .going .within, lit≤ tt)
+last-line-requires c κs = (c .before .before .before .before .before .before .before .before .before .before .before .before .before .digits .ensures, (c .before .read-effects .ensures .going .within, lit≤ tt))
 
 add-refused : tie.Need-add-refused
 add-refused c =
-    let w : Within (c .before .before .before .before .before .before .before .before .before .before .before .before .before .before .before .before .before .before .args .s .now) (c .before .before .before .last-line .result) = ended (c .before .before .before .before .read-effects .ensures .going .within) (c .before .before .before .before .read-effects .ensures .past) (c .before .before .before .last-line .ensures) .within in
-    omega (arith, w .at, w .line, c .before .before .before .before .before .before .before .before .before .before .before .before .before .before .before .before .if1 .left)
+    let w : Within (c .before .before .before .before .before .before .before .before .before .before .before .before .before .before .before .before .before .before .before .before .args .s .now) (c .before .before .before .last-line .result) = ended (c .before .before .before .before .before .read-effects .ensures .going .within) (c .before .before .before .before .before .read-effects .ensures .past) (c .before .before .before .last-line .ensures) .within in
+    omega (arith, w .at, w .line, c .before .before .before .before .before .before .before .before .before .before .before .before .before .before .before .before .before .before .if1 .left)
 
 refused-requires-2 : tie.Need-refused-requires-2
 refused-requires-2 c κs = search needs
@@ -52,10 +52,10 @@ refused-requires-2 c κs = search needs
 returns-2 : tie.Need-returns-2
 returns-2 c =
     c .refused2 .ensures
-    ∙ rw (whole-refused (c .before .before .before .before .before .before .before .before .before .before .before .before .before .before .before .before .before .if1 .left) (c .before .before .before .before .before .before .before .before .before .before .before .before .before .before .before .read-header .ensures) (c .before .before .before .before .before .before .before .before .before .before .before .before .before .read-pairs .ensures) (c .before .before .before .before .before .before .before .before .before .before .before .read-classes .ensures) (c .before .before .before .before .before .before .before .before .before .read-fields .ensures) (c .before .before .before .before .before .before .before .read-methods .ensures) (c .before .before .before .before .before .read-effects .ensures) (ended (c .before .before .before .before .before .read-effects .ensures .going .within) (c .before .before .before .before .before .read-effects .ensures .past) (c .before .before .before .before .last-line .ensures)) (c .before .before .if2 .taken), add-one)
+    ∙ rw (whole-refused (c .before .before .before .before .before .before .before .before .before .before .before .before .before .before .before .before .before .before .before .if1 .left) (c .before .before .before .before .before .before .before .before .before .before .before .before .before .before .before .before .read-header .ensures) (c .before .before .before .before .before .before .before .before .before .before .before .before .before .before .read-pairs .ensures) (c .before .before .before .before .before .before .before .before .before .before .before .before .read-classes .ensures) (c .before .before .before .before .before .before .before .before .before .before .read-fields .ensures) (c .before .before .before .before .before .before .before .before .read-methods .ensures) (c .before .before .before .before .before .before .read-effects .ensures) (ended (c .before .before .before .before .before .before .read-effects .ensures .going .within) (c .before .before .before .before .before .before .read-effects .ensures .past) (c .before .before .before .before .last-line .ensures)) (c .before .before .if2 .taken), add-one)
 
 returns-3 : tie.Need-returns-3
-returns-3 c = whole-read (c .before .before .before .before .before .before .before .before .before .before .before .before .before .before .before .before .before .before .before .before .if1 .left) (c .before .before .before .before .before .before .before .before .before .before .before .before .before .before .before .before .before .before .read-header .ensures) (c .before .before .before .before .before .before .before .before .before .before .before .before .before .before .before .before .read-pairs .ensures) (c .before .before .before .before .before .before .before .before .before .before .before .before .before .before .read-classes .ensures) (c .before .before .before .before .before .before .before .before .before .before .before .before .read-fields .ensures) (c .before .before .before .before .before .before .before .before .before .before .read-methods .ensures) (c .before .before .before .before .before .before .before .before .read-effects .ensures) (ended (c .before .before .before .before .before .before .before .before .read-effects .ensures .going .within) (c .before .before .before .before .before .before .before .before .read-effects .ensures .past) (c .before .before .before .before .before .before .before .last-line .ensures)) (c .before .before .before .before .before .if2 .left)
+returns-3 c = whole-read (c .before .before .before .before .before .before .before .before .before .before .before .before .before .before .before .before .before .before .before .before .before .before .if1 .left) (c .before .before .before .before .before .before .before .before .before .before .before .before .before .before .before .before .before .before .before .read-header .ensures) (c .before .before .before .before .before .before .before .before .before .before .before .before .before .before .before .before .before .read-pairs .ensures) (c .before .before .before .before .before .before .before .before .before .before .before .before .before .before .before .read-classes .ensures) (c .before .before .before .before .before .before .before .before .before .before .before .before .before .read-fields .ensures) (c .before .before .before .before .before .before .before .before .before .before .before .read-methods .ensures) (c .before .before .before .before .before .before .before .before .before .read-effects .ensures) (ended (c .before .before .before .before .before .before .before .before .before .read-effects .ensures .going .within) (c .before .before .before .before .before .before .before .before .before .read-effects .ensures .past) (c .before .before .before .before .before .before .before .last-line .ensures)) (c .before .before .before .before .before .if2 .left)
 
 pub read-spec : {M : Type 1} → statement M
 read-spec =

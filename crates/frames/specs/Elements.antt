@@ -1,4 +1,4 @@
--- The empty tables; and the element of a table that a frame stands for, from the frame as it is scanned.
+-- The empty tables; and the element of a table that a frame stands for, from the frame as it is scanned: from its bytes, whatever its length.
 -- Assumes nothing.
 use mathlib.Core.List.{[], _∷_}
 use lib.ListN.{replicate}

@@ -3,6 +3,7 @@
 -- Assumes nothing.
 use Prim.Native.Nat.{ℕ, _+_, _*_}
 use mathlib.Core.Bool.{Bool, true, false, _&&_, _||_, cond}
+use mathlib.Core.List.{List}
 use lib.Dec.{eqb, leb, ltb}
 use lib.ListN.{getD}
 use lib.Seq.{slice}
@@ -16,6 +17,10 @@ use Rattle.frames.specs.declared.effects.Declared.{Declared}
 unfoldable pub ask : Bool → ℕ → ℕ → ℕ
 ask true k x = x
 ask false k x = k
+
+-- the frame of these first bytes and this length
+abbrev pub frameOf : List ℕ → ℕ → Frame
+frameOf b n = record { b = b; n = n }
 
 -- the byte of a frame at a place
 abbrev pub at : Frame → ℕ → ℕ

@@ -2,9 +2,8 @@
 use crate::tests;
 use tables::Class;
 use tables::Classes;
-use text::Frame;
 ghost use mathlib.Core.Path.{_≡_};
-ghost use Rattle.frames.specs.Judging.{judgeClass};
+ghost use Rattle.frames.specs.Judging.{judgeClass, frameOf};
 ghost use Rattle.frames.specs.Elements.{noClasses, classIn};
 
 pub fn no_classes() -> Classes
@@ -22,19 +21,19 @@ pub fn no_classes() -> Classes
 }
 
 // With nd domains and n classes before it.
-pub fn judge_class(nd: usize, n: usize, f: Frame) -> u8
-    ensures { λ r. ⌜ r ≡ judgeClass nd n f ⌝ }
+pub fn judge_class(nd: usize, n: usize, b: &[u8; 16], len: usize) -> u8
+    ensures { λ r. ⌜ r ≡ judgeClass nd n (frameOf (now (b .entry)) len) ⌝ }
 {
-    let declared = tests::below(f.b[1], nd) & tests::counted(f, 2, 4, n);
-    tests::judge(n < 127, text::fits(f), declared)
+    let declared = tests::below(b[1], nd) & tests::counted(b, 2, 4, n);
+    tests::judge(n < 127, text::fits_as(3, b, len), declared)
 }
 
-pub fn class_of(f: Frame) -> Class
-    ensures { λ r. ⌜ r ≡ classIn f ⌝ }
+pub fn class_of(b: &[u8; 16]) -> Class
+    ensures { λ r. ⌜ r ≡ classIn (frameOf (now (b .entry)) 16) ⌝ }
 {
     Class {
-        domain: f.b[1],
-        k: f.b[2],
-        supers: [f.b[3], f.b[4], f.b[5], f.b[6]],
+        domain: b[1],
+        k: b[2],
+        supers: [b[3], b[4], b[5], b[6]],
     }
 }

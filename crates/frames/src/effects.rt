@@ -2,9 +2,8 @@
 use crate::tests;
 use tables::Effect;
 use tables::Effects;
-use text::Frame;
 ghost use mathlib.Core.Path.{_≡_};
-ghost use Rattle.frames.specs.Judging.{judgeEffect, namedIn};
+ghost use Rattle.frames.specs.Judging.{judgeEffect, frameOf, namedIn};
 ghost use Rattle.frames.specs.Elements.{noEffects, effectIn};
 
 // What is declared: how many classes, fields and methods; and the static bytes of the field and of the method that have the effect's number.
@@ -52,19 +51,19 @@ fn is_named(d: Declared, op: u8, x: u8) -> bool
 }
 
 // With what is declared, and n effects before it.
-pub fn judge_effect(d: Declared, n: usize, f: Frame) -> u8
-    ensures { λ r. ⌜ r ≡ judgeEffect d n f ⌝ }
+pub fn judge_effect(d: Declared, n: usize, b: &[u8; 16], len: usize) -> u8
+    ensures { λ r. ⌜ r ≡ judgeEffect d n (frameOf (now (b .entry)) len) ⌝ }
 {
-    let declared = tests::below(f.b[1], d.methods) & is_named(d, f.b[2], f.b[3]);
-    tests::judge(n < 1024, text::fits(f), declared)
+    let declared = tests::below(b[1], d.methods) & is_named(d, b[2], b[3]);
+    tests::judge(n < 1024, text::fits_as(6, b, len), declared)
 }
 
-pub fn effect_of(f: Frame) -> Effect
-    ensures { λ r. ⌜ r ≡ effectIn f ⌝ }
+pub fn effect_of(b: &[u8; 16]) -> Effect
+    ensures { λ r. ⌜ r ≡ effectIn (frameOf (now (b .entry)) 16) ⌝ }
 {
     Effect {
-        method: f.b[1],
-        op: f.b[2],
-        number: f.b[3],
+        method: b[1],
+        op: b[2],
+        number: b[3],
     }
 }

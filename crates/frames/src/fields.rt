@@ -2,9 +2,8 @@
 use crate::tests;
 use tables::Field;
 use tables::Fields;
-use text::Frame;
 ghost use mathlib.Core.Path.{_≡_};
-ghost use Rattle.frames.specs.Judging.{judgeField};
+ghost use Rattle.frames.specs.Judging.{judgeField, frameOf};
 ghost use Rattle.frames.specs.Elements.{noFields, fieldIn};
 
 pub fn no_fields() -> Fields
@@ -22,19 +21,19 @@ pub fn no_fields() -> Fields
 }
 
 // With nc classes, and n fields before it.
-pub fn judge_field(nc: usize, n: usize, f: Frame) -> u8
-    ensures { λ r. ⌜ r ≡ judgeField nc n f ⌝ }
+pub fn judge_field(nc: usize, n: usize, b: &[u8; 16], len: usize) -> u8
+    ensures { λ r. ⌜ r ≡ judgeField nc n (frameOf (now (b .entry)) len) ⌝ }
 {
-    let declared = tests::below(f.b[1], nc) & tests::below(f.b[2], nc) & (f.b[3] <= 1);
-    tests::judge(n < 256, text::fits(f), declared)
+    let declared = tests::below(b[1], nc) & tests::below(b[2], nc) & (b[3] <= 1);
+    tests::judge(n < 256, text::fits_as(4, b, len), declared)
 }
 
-pub fn field_of(f: Frame) -> Field
-    ensures { λ r. ⌜ r ≡ fieldIn f ⌝ }
+pub fn field_of(b: &[u8; 16]) -> Field
+    ensures { λ r. ⌜ r ≡ fieldIn (frameOf (now (b .entry)) 16) ⌝ }
 {
     Field {
-        class: f.b[1],
-        typ: f.b[2],
-        stat: f.b[3] as u16,
+        class: b[1],
+        typ: b[2],
+        stat: tests::wide(b[3]),
     }
 }

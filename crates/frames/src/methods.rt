@@ -2,10 +2,9 @@
 use crate::tests;
 use tables::Method;
 use tables::Methods;
-use text::Frame;
 ghost use mathlib.Core.Path.{_≡_};
 ghost use Rattle.meaning.specs.Reading.{isSlot};
-ghost use Rattle.frames.specs.Judging.{judgeMethod, slotIn, resultIn};
+ghost use Rattle.frames.specs.Judging.{judgeMethod, frameOf, slotIn, resultIn};
 ghost use Rattle.frames.specs.Elements.{noMethods, methodIn};
 
 pub fn no_methods() -> Methods
@@ -26,10 +25,10 @@ pub fn no_methods() -> Methods
     }
 }
 
-fn slot_of(f: Frame) -> u16
-    ensures { λ r. ⌜ r ≡ slotIn f ⌝ }
+fn slot_of(b: &[u8; 16]) -> u16
+    ensures { λ r. ⌜ r ≡ slotIn (frameOf (now (b .entry)) 16) ⌝ }
 {
-    (f.b[4] as u16) * 256 + (f.b[5] as u16)
+    tests::wide(b[4]) * 256 + tests::wide(b[5])
 }
 
 fn is_slot(stat: u8, slot: u16) -> bool
@@ -49,29 +48,29 @@ fn is_result(nc: usize, x: u8) -> bool
 }
 
 // With nd domains, nc classes, and n methods before it.
-pub fn judge_method(nd: usize, nc: usize, n: usize, f: Frame) -> u8
-    ensures { λ r. ⌜ r ≡ judgeMethod nd nc n f ⌝ }
+pub fn judge_method(nd: usize, nc: usize, n: usize, b: &[u8; 16], len: usize) -> u8
+    ensures { λ r. ⌜ r ≡ judgeMethod nd nc n (frameOf (now (b .entry)) len) ⌝ }
 {
-    let stat = f.b[3];
-    let declared = tests::below(f.b[1], nc)
-        & tests::below(f.b[2], nd)
+    let stat = b[3];
+    let declared = tests::below(b[1], nc)
+        & tests::below(b[2], nd)
         & (stat <= 1)
-        & is_slot(stat, slot_of(f))
-        & is_result(nc, f.b[6])
-        & tests::counted(f, 7, 6, nc);
-    tests::judge(n < 256, text::fits(f), declared)
+        & is_slot(stat, slot_of(b))
+        & is_result(nc, b[6])
+        & tests::counted(b, 7, 6, nc);
+    tests::judge(n < 256, text::fits_as(5, b, len), declared)
 }
 
-pub fn method_of(f: Frame) -> Method
-    ensures { λ r. ⌜ r ≡ methodIn f ⌝ }
+pub fn method_of(b: &[u8; 16]) -> Method
+    ensures { λ r. ⌜ r ≡ methodIn (frameOf (now (b .entry)) 16) ⌝ }
 {
     Method {
-        class: f.b[1],
-        label: f.b[2],
-        stat: f.b[3] as u16,
-        slot: slot_of(f),
-        result: f.b[6],
-        k: f.b[7],
-        params: [f.b[8], f.b[9], f.b[10], f.b[11], f.b[12], f.b[13]],
+        class: b[1],
+        label: b[2],
+        stat: tests::wide(b[3]),
+        slot: slot_of(b),
+        result: b[6],
+        k: b[7],
+        params: [b[8], b[9], b[10], b[11], b[12], b[13]],
     }
 }

@@ -2,9 +2,8 @@
 use crate::tests;
 use tables::Pair;
 use tables::Pairs;
-use text::Frame;
 ghost use mathlib.Core.Path.{_≡_};
-ghost use Rattle.frames.specs.Judging.{judgePair};
+ghost use Rattle.frames.specs.Judging.{judgePair, frameOf};
 ghost use Rattle.frames.specs.Elements.{noPairs, pairIn};
 
 pub fn no_pairs() -> Pairs
@@ -18,18 +17,18 @@ pub fn no_pairs() -> Pairs
 }
 
 // With nd domains and n pairs before it.
-pub fn judge_pair(nd: usize, n: usize, f: Frame) -> u8
-    ensures { λ r. ⌜ r ≡ judgePair nd n f ⌝ }
+pub fn judge_pair(nd: usize, n: usize, b: &[u8; 16], len: usize) -> u8
+    ensures { λ r. ⌜ r ≡ judgePair nd n (frameOf (now (b .entry)) len) ⌝ }
 {
-    let declared = tests::below(f.b[1], nd) & tests::below(f.b[2], nd);
-    tests::judge(n < 128, text::fits(f), declared)
+    let declared = tests::below(b[1], nd) & tests::below(b[2], nd);
+    tests::judge(n < 128, text::fits_as(2, b, len), declared)
 }
 
-pub fn pair_of(f: Frame) -> Pair
-    ensures { λ r. ⌜ r ≡ pairIn f ⌝ }
+pub fn pair_of(b: &[u8; 16]) -> Pair
+    ensures { λ r. ⌜ r ≡ pairIn (frameOf (now (b .entry)) 16) ⌝ }
 {
     Pair {
-        low: f.b[1],
-        high: f.b[2],
+        low: b[1],
+        high: b[2],
     }
 }

@@ -1,6 +1,6 @@
 -- `judge_class` puts its tests together.
 -- Assumes nothing.
-use Rattle.frames.specs.Judging.{judgeClass}
+use Rattle.frames.specs.Judging.{countedIn, judgeClass}
 use borrow.Author.Needs.{needs}
 use Rattle.frames.proofs.classes.judge_class.Statement.{statement}
 use Rattle.frames.proofs.classes.judge_class.Tie as tie
@@ -14,14 +14,14 @@ below-requires c κs = search needs
 counted-requires : tie.Need-counted-requires
 counted-requires c κs = search needs
 
-fits-requires : tie.Need-fits-requires
-fits-requires c κs = search needs
+fits-as-requires : tie.Need-fits-as-requires
+fits-as-requires c κs = search needs
 
 judge-requires : tie.Need-judge-requires
 judge-requires c κs = search needs
 
 returns : tie.Need-returns
-unfolding judgeClass
+unfolding judgeClass countedIn
 returns c = cc
 
 pub judge-class-spec : {M : Type 1} → statement M
@@ -31,6 +31,6 @@ judge-class-spec =
     element-copy-out-below
     below-requires
     counted-requires
-    fits-requires
+    fits-as-requires
     judge-requires
     returns)

@@ -20,8 +20,8 @@ element-copy-out-is-named-2 c = search needs
 is-named-requires : tie.Need-is-named-requires
 is-named-requires c κs = search needs
 
-fits-requires : tie.Need-fits-requires
-fits-requires c κs = search needs
+fits-as-requires : tie.Need-fits-as-requires
+fits-as-requires c κs = search needs
 
 judge-requires : tie.Need-judge-requires
 judge-requires c κs = search needs
@@ -39,6 +39,6 @@ judge-effect-spec =
     element-copy-out-is-named
     element-copy-out-is-named-2
     is-named-requires
-    fits-requires
+    fits-as-requires
     judge-requires
     returns)

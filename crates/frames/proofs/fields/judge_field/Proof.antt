@@ -20,8 +20,8 @@ below-requires-2 c κs = search needs
 element-copy-out-declared : tie.Need-element-copy-out-declared
 element-copy-out-declared c = search needs
 
-fits-requires : tie.Need-fits-requires
-fits-requires c κs = search needs
+fits-as-requires : tie.Need-fits-as-requires
+fits-as-requires c κs = search needs
 
 judge-requires : tie.Need-judge-requires
 judge-requires c κs = search needs
@@ -39,6 +39,6 @@ judge-field-spec =
     element-copy-out-below-2
     below-requires-2
     element-copy-out-declared
-    fits-requires
+    fits-as-requires
     judge-requires
     returns)

@@ -1,6 +1,6 @@
 -- `judge_method` puts its tests together.
 -- Assumes nothing.
-use Rattle.frames.specs.Judging.{judgeMethod}
+use Rattle.frames.specs.Judging.{countedIn, judgeMethod}
 use borrow.Author.Needs.{needs}
 use Rattle.frames.proofs.methods.judge_method.Statement.{statement}
 use Rattle.frames.proofs.methods.judge_method.Tie as tie
@@ -35,14 +35,14 @@ is-result-requires c κs = search needs
 counted-requires : tie.Need-counted-requires
 counted-requires c κs = search needs
 
-fits-requires : tie.Need-fits-requires
-fits-requires c κs = search needs
+fits-as-requires : tie.Need-fits-as-requires
+fits-as-requires c κs = search needs
 
 judge-requires : tie.Need-judge-requires
 judge-requires c κs = search needs
 
 returns : tie.Need-returns
-unfolding judgeMethod
+unfolding judgeMethod countedIn
 returns c = cc
 
 pub judge-method-spec : {M : Type 1} → statement M
@@ -59,6 +59,6 @@ judge-method-spec =
     element-copy-out-is-result
     is-result-requires
     counted-requires
-    fits-requires
+    fits-as-requires
     judge-requires
     returns)

@@ -17,8 +17,8 @@ element-copy-out-below-2 c = search needs
 below-requires-2 : tie.Need-below-requires-2
 below-requires-2 c κs = search needs
 
-fits-requires : tie.Need-fits-requires
-fits-requires c κs = search needs
+fits-as-requires : tie.Need-fits-as-requires
+fits-as-requires c κs = search needs
 
 judge-requires : tie.Need-judge-requires
 judge-requires c κs = search needs
@@ -35,6 +35,6 @@ judge-pair-spec =
     below-requires
     element-copy-out-below-2
     below-requires-2
-    fits-requires
+    fits-as-requires
     judge-requires
     returns)

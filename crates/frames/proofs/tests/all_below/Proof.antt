@@ -3,7 +3,6 @@
 use Prim.Native.Nat.{_-_}
 use native.Mathlib.Omega.{arith}
 use mathlib.Core.Path.{_≡_, refl, sym, _∙_}
-use lib.ListN.{length}
 use lib.Seq.{slice}
 use borrow.Author.Tests.{not-true, not-false}
 use Rattle.meaning.specs.Lists.{all}
@@ -14,25 +13,25 @@ use Rattle.frames.proofs.tests.all_below.Statement.{statement}
 use Rattle.frames.proofs.tests.all_below.Tie as tie
 
 abbrev Inv-loop : tie.InvT-loop
-Inv-loop from to n f i₀ i = all (below n) (slice i to (f .b)) ≡ all (below n) (slice from to (f .b))
+Inv-loop b from to n i₀ i = all (below n) (slice i to b) ≡ all (below n) (slice from to b)
 
 abbrev μ-loop : tie.MeasureT-loop
-μ-loop from to n f i₀ i = to - i
+μ-loop b from to n i₀ i = to - i
 
 loop-holds : tie.Need-loop-holds Inv-loop μ-loop
 loop-holds c = refl
 
-element-copy-out-below : tie.Need-element-copy-out-below Inv-loop μ-loop
-element-copy-out-below c = search needs
+shared-slice-read-below : tie.Need-shared-slice-read-below Inv-loop μ-loop
+shared-slice-read-below c = omega (arith, c .before .loop-test .taken, c .before .before .before .before .pre)
 
 below-requires : tie.Need-below-requires Inv-loop μ-loop
 below-requires c κs = search needs
 
 returns : tie.Need-returns Inv-loop μ-loop
 returns c =
-    let x = c .before .before .before .before .before .args .t1 .b in
-    let l : length x ≡ 16 = search needs in
-    sym (sym (c .before .before .before .before .loop .inv) ∙ all-step (below (c .before .before .before .before .before .args .n)) (c .before .before .before .before .loop .i) (c .before .before .before .before .before .args .to) x (omega arith) (omega arith) ∙ rw (sym (c .before .below .ensures) ∙ not-true _ (c .if1 .taken)))
+    let s = c .before .before .before .before in
+    let a = s .before .before in
+    sym (sym (s .loop .inv) ∙ all-step (below (a .args .n)) (s .loop .i) (a .args .to) (a .args .b .now) (c .before .before .before .loop-test .taken) (a .pre) ∙ rw (sym (c .before .below .ensures) ∙ not-true _ (c .if1 .taken)))
 
 add-i : tie.Need-add-i Inv-loop μ-loop
 add-i c = search needs
@@ -42,12 +41,12 @@ loop-less c = search needs
 
 loop-again : tie.Need-loop-again Inv-loop μ-loop
 loop-again c =
-    let x = c .before .before .before .before .before .args .t1 .b in
-    let l : length x ≡ 16 = search needs in
-    sym (rw (sym (c .before .below .ensures) ∙ not-false _ (c .if1 .left)) at (all-step (below (c .before .before .before .before .before .args .n)) (c .before .before .before .before .loop .i) (c .before .before .before .before .before .args .to) x (omega arith) (omega arith))) ∙ c .before .before .before .before .loop .inv
+    let s = c .before .before .before .before in
+    let a = s .before .before in
+    sym (rw (sym (c .before .below .ensures) ∙ not-false _ (c .if1 .left)) at (all-step (below (a .args .n)) (s .loop .i) (a .args .to) (a .args .b .now) (c .before .before .before .loop-test .taken) (a .pre))) ∙ s .loop .inv
 
 returns-2 : tie.Need-returns-2 Inv-loop μ-loop
-returns-2 c = sym (sym (c .before .loop .inv) ∙ all-done (below (c .before .before .args .n)) (c .before .loop .i) (c .before .before .args .to) (c .before .before .args .t1 .b) (omega arith))
+returns-2 c = let a = c .before .before .before in sym (sym (c .before .loop .inv) ∙ all-done (below (a .args .n)) (c .before .loop .i) (a .args .to) (a .args .b .now) (omega arith))
 
 pub all-below-spec : {M : Type 1} → statement M
 all-below-spec =
@@ -56,7 +55,7 @@ all-below-spec =
     Inv-loop
     μ-loop
     loop-holds
-    element-copy-out-below
+    shared-slice-read-below
     below-requires
     returns
     add-i

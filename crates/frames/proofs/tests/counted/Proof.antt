@@ -30,7 +30,7 @@ all-below-requires c κs = search needs
 
 returns-2 : tie.Need-returns-2
 unfolding countedIn
-returns-2 c = simp (le-leb _ _ (c .before .if1 .left)) (c .all-below .ensures)
+returns-2 c = simp (le-leb _ _ (c .before .before .if1 .left)) (c .all-below .ensures)
 
 pub counted-spec : {M : Type 1} → statement M
 counted-spec =

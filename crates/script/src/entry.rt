@@ -1,6 +1,7 @@
 // Line 1: 10 mm.
 use lines::Cursor;
 ghost use mathlib.Core.Path.{_≡_};
+ghost use Rattle.text.specs.Values.{digitTable};
 ghost use Rattle.script.specs.Sections.{EntryRead, noEntry};
 
 pub struct Entry {
@@ -18,13 +19,14 @@ fn no_entry(no: u8) -> Entry
 }
 
 // With nm methods.
-pub(crate) fn read_entry(s: &[u8], nm: usize) -> Entry
+pub(crate) fn read_entry(digits: &[u16; 512], s: &[u8], nm: usize) -> Entry
+    requires { ⌜ now digits ≡ digitTable ⌝ }
     ensures { λ r. ⌜ EntryRead nm (now (s .entry)) r ⌝ }
 {
     if s.len() == 0 {
         return no_entry(59);
     }
-    let cut = text::scan(s, 0);
+    let cut = text::scan_by(digits, s, 0);
     let ok = cut.ok;
     if !ok {
         return no_entry(52);

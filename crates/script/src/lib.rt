@@ -69,7 +69,7 @@ pub fn read(s: &[u8], t: Tables, rows: &[u64; 254]) -> Script
     let fields = t.fields;
     let methods = t.methods;
     let digits = text::digits();
-    let e = entry::read_entry(s, methods.n);
+    let e = entry::read_entry(&digits, s, methods.n);
     let o = object_lines::read_objects(&digits, s, e.next, nc);
     let pool = o.pool;
     let none = link_lines::no_links();
@@ -78,7 +78,7 @@ pub fn read(s: &[u8], t: Tables, rows: &[u64; 254]) -> Script
     let b = link_lines::read_object_links(&digits, s, a.next, some, nc, fields, pool, rows);
     let l = label_lines::read_labels(&digits, s, b.next, nc, pool, rows);
     let k = step_lines::read_steps(&digits, s, l.next, nc, fields, methods);
-    let end = lines::last_line(s, k.next, 0x2F, 50);
+    let end = lines::last_line(&digits, s, k.next, 0x2F, 50);
     if end.no != 0 {
         return refused(end.no, end.line + 1);
     }

@@ -20,20 +20,20 @@ pub(crate) fn read_classes(digits: &[u16; 512], s: &[u8], from: Cursor, nd: usiz
     let mut x = frames::classes::no_classes();
     let mut next = from;
     loop {
-        let cut = lines::line_by(digits, s, next, 3);
-        let here = cut.ok;
+        let mut f = [0u8; 16];
+        let line = lines::line_into(digits, s, next, 3, &mut f);
+        let here = line.ok;
         if !here {
             return ClassesRead { next, classes: x };
         }
-        let f = cut.frame;
         let n = x.n;
-        let no = frames::classes::judge_class(nd, n, f);
+        let no = frames::classes::judge_class(nd, n, &f, line.n);
         if no != 0 {
             next.no = no;
             return ClassesRead { next, classes: x };
         }
-        x.at[n] = frames::classes::class_of(f);
+        x.at[n] = frames::classes::class_of(&f);
         x.n = n + 1;
-        next = lines::moved(next, cut.next);
+        next = lines::moved(next, line.next);
     }
 }

@@ -30,14 +30,14 @@ pub(crate) fn read_effects(
     let mut x = frames::effects::no_effects();
     let mut next = from;
     loop {
-        let cut = lines::line_by(digits, s, next, 6);
-        let here = cut.ok;
+        let mut f = [0u8; 16];
+        let line = lines::line_into(digits, s, next, 6, &mut f);
+        let here = line.ok;
         if !here {
             return EffectsRead { next, effects: x };
         }
-        let f = cut.frame;
         let n = x.n;
-        let i = lines::wide(f.b[3]);
+        let i = lines::wide(f[3]);
         let field = fields.at[i];
         let method = methods.at[i];
         let d = Declared {
@@ -47,13 +47,13 @@ pub(crate) fn read_effects(
             field: field.stat,
             method: method.stat,
         };
-        let no = frames::effects::judge_effect(d, n, f);
+        let no = frames::effects::judge_effect(d, n, &f, line.n);
         if no != 0 {
             next.no = no;
             return EffectsRead { next, effects: x };
         }
-        x.at[n] = frames::effects::effect_of(f);
+        x.at[n] = frames::effects::effect_of(&f);
         x.n = n + 1;
-        next = lines::moved(next, cut.next);
+        next = lines::moved(next, line.next);
     }
 }

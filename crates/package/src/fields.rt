@@ -20,20 +20,20 @@ pub(crate) fn read_fields(digits: &[u16; 512], s: &[u8], from: Cursor, nc: usize
     let mut x = frames::fields::no_fields();
     let mut next = from;
     loop {
-        let cut = lines::line_by(digits, s, next, 4);
-        let here = cut.ok;
+        let mut f = [0u8; 16];
+        let line = lines::line_into(digits, s, next, 4, &mut f);
+        let here = line.ok;
         if !here {
             return FieldsRead { next, fields: x };
         }
-        let f = cut.frame;
         let n = x.n;
-        let no = frames::fields::judge_field(nc, n, f);
+        let no = frames::fields::judge_field(nc, n, &f, line.n);
         if no != 0 {
             next.no = no;
             return FieldsRead { next, fields: x };
         }
-        x.at[n] = frames::fields::field_of(f);
+        x.at[n] = frames::fields::field_of(&f);
         x.n = n + 1;
-        next = lines::moved(next, cut.next);
+        next = lines::moved(next, line.next);
     }
 }

@@ -26,20 +26,20 @@ pub(crate) fn read_methods(
     let mut x = frames::methods::no_methods();
     let mut next = from;
     loop {
-        let cut = lines::line_by(digits, s, next, 5);
-        let here = cut.ok;
+        let mut f = [0u8; 16];
+        let line = lines::line_into(digits, s, next, 5, &mut f);
+        let here = line.ok;
         if !here {
             return MethodsRead { next, methods: x };
         }
-        let f = cut.frame;
         let n = x.n;
-        let no = frames::methods::judge_method(nd, nc, n, f);
+        let no = frames::methods::judge_method(nd, nc, n, &f, line.n);
         if no != 0 {
             next.no = no;
             return MethodsRead { next, methods: x };
         }
-        x.at[n] = frames::methods::method_of(f);
+        x.at[n] = frames::methods::method_of(&f);
         x.n = n + 1;
-        next = lines::moved(next, cut.next);
+        next = lines::moved(next, line.next);
     }
 }

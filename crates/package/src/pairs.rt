@@ -20,20 +20,20 @@ pub(crate) fn read_pairs(digits: &[u16; 512], s: &[u8], from: Cursor, nd: usize)
     let mut x = frames::pairs::no_pairs();
     let mut next = from;
     loop {
-        let cut = lines::line_by(digits, s, next, 2);
-        let here = cut.ok;
+        let mut f = [0u8; 16];
+        let line = lines::line_into(digits, s, next, 2, &mut f);
+        let here = line.ok;
         if !here {
             return PairsRead { next, pairs: x };
         }
-        let f = cut.frame;
         let n = x.n;
-        let no = frames::pairs::judge_pair(nd, n, f);
+        let no = frames::pairs::judge_pair(nd, n, &f, line.n);
         if no != 0 {
             next.no = no;
             return PairsRead { next, pairs: x };
         }
-        x.at[n] = frames::pairs::pair_of(f);
+        x.at[n] = frames::pairs::pair_of(&f);
         x.n = n + 1;
-        next = lines::moved(next, cut.next);
+        next = lines::moved(next, line.next);
     }
 }

@@ -9,6 +9,7 @@ use borrow.Author.Tests.{not-true, not-false}
 use Rattle.meaning.specs.Kinds.{rowOf}
 use Rattle.tables.specs.Pack.{packEffects}
 use Rattle.package.specs.Sections.{withEffects, HasDeclared, Going}
+use Rattle.text.proofs.Cuts.{said-cut}
 use Rattle.lines.proofs.Looks.{found, missing, moved-within}
 use Rattle.package.proofs.Loops.{going-start}
 use Rattle.package.proofs.Stores.{effects-none}
@@ -29,15 +30,15 @@ no-effects-requires c κs = search needs
 loop-holds : tie.Need-loop-holds Inv-loop μ-loop
 loop-holds c = going-start (c .before .before .pre .0) (c .no-effects .ensures ∙ effects-none)
 
-line-by-requires : tie.Need-line-by-requires Inv-loop μ-loop
+line-into-requires : tie.Need-line-into-requires Inv-loop μ-loop
 unfolding rowOf
-line-by-requires c κs = (c .before .before .before .pre .1, refl)
+line-into-requires c κs = (c .before .before .before .before .pre .1, refl)
 
 returns : tie.Need-returns Inv-loop μ-loop
-returns c = record { going = c .before .before .loop .inv; past = missing _ _ _ (c .before .line-by .ensures) (not-true _ (c .if1 .taken)) }
+returns c = record { going = c .before .before .before .loop .inv; past = missing _ _ _ (said-cut (c .before .line-into .ensures)) (not-true _ (c .if1 .taken)) }
 
-element-copy-out-wide : tie.Need-element-copy-out-wide Inv-loop μ-loop
-element-copy-out-wide c = search needs
+array-read-wide : tie.Need-array-read-wide Inv-loop μ-loop
+array-read-wide c = search needs
 
 wide-requires : tie.Need-wide-requires Inv-loop μ-loop
 wide-requires c κs = search needs
@@ -58,16 +59,16 @@ judge-effect-requires : tie.Need-judge-effect-requires Inv-loop μ-loop
 judge-effect-requires c κs = search needs
 
 returns-2 : tie.Need-returns-2 Inv-loop μ-loop
-returns-2 c = line-refused (effects-kept _ _ _ _ _) (c .before .before .before .before .before .before .before .before .before .loop .inv) (found _ _ _ (c .before .before .before .before .before .before .before .before .line-by .ensures) (not-false _ (c .before .before .before .before .before .before .before .if1 .left))) (by-number (c .before .before .before .before .before .before .before .before .before .before .before .before .args .nc) (c .before .before .before .before .before .before .before .before .before .before .before .before .args .t5) (c .before .before .before .before .before .before .before .before .before .before .before .before .args .t6) _ _ _ _ (c .before .before .before .before .wide .ensures .0) (c .before .judge-effect .ensures)) (c .if2 .taken)
+returns-2 c = line-refused (effects-kept _ _ _ _ _) (c .before .before .before .before .before .before .before .before .before .loop .inv) (found _ _ _ (said-cut (c .before .before .before .before .before .before .before .line-into .ensures)) (not-false _ (c .before .before .before .before .before .before .if1 .left))) (by-number (c .before .before .before .before .before .before .before .before .before .before .before .before .args .nc) (c .before .before .before .before .before .before .before .before .before .before .before .before .args .t5) (c .before .before .before .before .before .before .before .before .before .before .before .before .args .t6) _ _ _ _ (c .before .before .before .before .before .wide .ensures .0) (c .before .judge-effect .ensures)) (c .if2 .taken)
 
 effect-of-requires : tie.Need-effect-of-requires Inv-loop μ-loop
 effect-of-requires c κs = search needs
 
-room : (c : tie.After-effect-of Inv-loop μ-loop) → c .before .before .before .before .before .before .before .before .before .before .loop .x .n < 1024
-room c = line-room (effects-kept _ _ _ _ _) (c .before .before .before .before .before .before .before .before .before .before .loop .inv) (found _ _ _ (c .before .before .before .before .before .before .before .before .before .line-by .ensures) (not-false _ (c .before .before .before .before .before .before .before .before .if1 .left))) (by-number (c .before .before .before .before .before .before .before .before .before .before .before .before .before .args .nc) (c .before .before .before .before .before .before .before .before .before .before .before .before .before .args .t5) (c .before .before .before .before .before .before .before .before .before .before .before .before .before .args .t6) _ _ _ _ (c .before .before .before .before .before .wide .ensures .0) (c .before .before .judge-effect .ensures)) (c .before .if2 .left)
+room : (c : tie.After-effect-of Inv-loop μ-loop) → c .before .before .before .before .before .before .before .before .before .before .before .loop .x .n < 1024
+room c = line-room (effects-kept _ _ _ _ _) (c .before .before .before .before .before .before .before .before .before .before .before .loop .inv) (found _ _ _ (said-cut (c .before .before .before .before .before .before .before .before .before .line-into .ensures)) (not-false _ (c .before .before .before .before .before .before .before .before .if1 .left))) (by-number (c .before .before .before .before .before .before .before .before .before .before .before .before .before .before .args .nc) (c .before .before .before .before .before .before .before .before .before .before .before .before .before .before .args .t5) (c .before .before .before .before .before .before .before .before .before .before .before .before .before .before .args .t6) _ _ _ _ (c .before .before .before .before .before .before .before .wide .ensures .0) (c .before .before .before .judge-effect .ensures)) (c .before .before .if2 .left)
 
-mul-t26 : tie.Need-mul-t26 Inv-loop μ-loop
-mul-t26 c = omega (arith, room c)
+mul-t34 : tie.Need-mul-t34 Inv-loop μ-loop
+mul-t34 c = omega (arith, room c)
 
 element-set-from-x : tie.Need-element-set-from-x Inv-loop μ-loop
 element-set-from-x c = room c
@@ -76,15 +77,15 @@ add-x : tie.Need-add-x Inv-loop μ-loop
 add-x c = omega (arith, room c)
 
 moved-requires : tie.Need-moved-requires Inv-loop μ-loop
-moved-requires c κs = let d = (found _ _ _ (c .before .before .before .before .before .before .before .before .before .line-by .ensures) (not-false _ (c .before .before .before .before .before .before .before .before .if1 .left))) in omega (arith, d .taken .next, c .before .before .before .before .before .before .before .before .before .before .loop .inv .within .line)
+moved-requires c κs = let d = (found _ _ _ (said-cut (c .before .before .before .before .before .before .before .before .before .line-into .ensures)) (not-false _ (c .before .before .before .before .before .before .before .before .if1 .left))) in omega (arith, d .taken .next, c .before .before .before .before .before .before .before .before .before .before .before .loop .inv .within .line)
 
 loop-less : tie.Need-loop-less Inv-loop μ-loop
 loop-less c =
-    let d = (found _ _ _ (c .before .before .before .before .before .before .before .before .before .before .line-by .ensures) (not-false _ (c .before .before .before .before .before .before .before .before .before .if1 .left))) in
-    rw (c .moved .ensures) (omega (arith, moved-within (c .before .before .before .before .before .before .before .before .before .before .before .loop .inv .within) d .at, d .taken .next))
+    let d = (found _ _ _ (said-cut (c .before .before .before .before .before .before .before .before .before .before .line-into .ensures)) (not-false _ (c .before .before .before .before .before .before .before .before .before .if1 .left))) in
+    rw (c .moved .ensures) (omega (arith, moved-within (c .before .before .before .before .before .before .before .before .before .before .before .before .loop .inv .within) d .at, d .taken .next))
 
 loop-again : tie.Need-loop-again Inv-loop μ-loop
-loop-again c = rw (c .moved .ensures) (line-on (effects-kept _ _ _ _ _) (c .before .before .before .before .before .before .before .before .before .before .before .loop .inv) (found _ _ _ (c .before .before .before .before .before .before .before .before .before .before .line-by .ensures) (not-false _ (c .before .before .before .before .before .before .before .before .before .if1 .left))) (by-number (c .before .before .before .before .before .before .before .before .before .before .before .before .before .before .args .nc) (c .before .before .before .before .before .before .before .before .before .before .before .before .before .before .args .t5) (c .before .before .before .before .before .before .before .before .before .before .before .before .before .before .args .t6) _ _ _ _ (c .before .before .before .before .before .before .wide .ensures .0) (c .before .before .before .judge-effect .ensures)) (c .before .effect-of .ensures) (c .before .before .if2 .left))
+loop-again c = rw (c .moved .ensures) (line-on (effects-kept _ _ _ _ _) (c .before .before .before .before .before .before .before .before .before .before .before .before .loop .inv) (found _ _ _ (said-cut (c .before .before .before .before .before .before .before .before .before .before .line-into .ensures)) (not-false _ (c .before .before .before .before .before .before .before .before .before .if1 .left))) (by-number (c .before .before .before .before .before .before .before .before .before .before .before .before .before .before .before .args .nc) (c .before .before .before .before .before .before .before .before .before .before .before .before .before .before .before .args .t5) (c .before .before .before .before .before .before .before .before .before .before .before .before .before .before .before .args .t6) _ _ _ _ (c .before .before .before .before .before .before .before .before .wide .ensures .0) (c .before .before .before .before .judge-effect .ensures)) (c .before .effect-of .ensures) (c .before .before .before .if2 .left))
 
 pub read-effects-spec : {M : Type 1} → statement M
 read-effects-spec =
@@ -94,9 +95,9 @@ read-effects-spec =
     μ-loop
     no-effects-requires
     loop-holds
-    line-by-requires
+    line-into-requires
     returns
-    element-copy-out-wide
+    array-read-wide
     wide-requires
     mul-field
     element-copy-out-field
@@ -105,7 +106,7 @@ read-effects-spec =
     judge-effect-requires
     returns-2
     effect-of-requires
-    mul-t26
+    mul-t34
     element-set-from-x
     add-x
     moved-requires

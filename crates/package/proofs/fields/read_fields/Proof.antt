@@ -9,6 +9,7 @@ use borrow.Author.Tests.{not-true, not-false}
 use Rattle.meaning.specs.Kinds.{rowOf}
 use Rattle.tables.specs.Pack.{packFields}
 use Rattle.package.specs.Sections.{withFields, HasClasses, Going}
+use Rattle.text.proofs.Cuts.{said-cut}
 use Rattle.lines.proofs.Looks.{found, missing, moved-within}
 use Rattle.package.proofs.Loops.{going-start}
 use Rattle.package.proofs.Stores.{fields-none}
@@ -29,27 +30,27 @@ no-fields-requires c κs = search needs
 loop-holds : tie.Need-loop-holds Inv-loop μ-loop
 loop-holds c = going-start (c .before .before .pre .0) (c .no-fields .ensures ∙ fields-none)
 
-line-by-requires : tie.Need-line-by-requires Inv-loop μ-loop
+line-into-requires : tie.Need-line-into-requires Inv-loop μ-loop
 unfolding rowOf
-line-by-requires c κs = (c .before .before .before .pre .1, refl)
+line-into-requires c κs = (c .before .before .before .before .pre .1, refl)
 
 returns : tie.Need-returns Inv-loop μ-loop
-returns c = record { going = c .before .before .loop .inv; past = missing _ _ _ (c .before .line-by .ensures) (not-true _ (c .if1 .taken)) }
+returns c = record { going = c .before .before .before .loop .inv; past = missing _ _ _ (said-cut (c .before .line-into .ensures)) (not-true _ (c .if1 .taken)) }
 
 judge-field-requires : tie.Need-judge-field-requires Inv-loop μ-loop
 judge-field-requires c κs = search needs
 
 returns-2 : tie.Need-returns-2 Inv-loop μ-loop
-returns-2 c = line-refused (fields-kept _) (c .before .before .before .before .before .loop .inv) (found _ _ _ (c .before .before .before .before .line-by .ensures) (not-false _ (c .before .before .before .if1 .left))) (c .before .judge-field .ensures) (c .if2 .taken)
+returns-2 c = line-refused (fields-kept _) (c .before .before .before .before .before .before .loop .inv) (found _ _ _ (said-cut (c .before .before .before .before .line-into .ensures)) (not-false _ (c .before .before .before .if1 .left))) (c .before .judge-field .ensures) (c .if2 .taken)
 
 field-of-requires : tie.Need-field-of-requires Inv-loop μ-loop
 field-of-requires c κs = search needs
 
-room : (c : tie.After-field-of Inv-loop μ-loop) → c .before .before .before .before .before .before .loop .x .n < 256
-room c = line-room (fields-kept _) (c .before .before .before .before .before .before .loop .inv) (found _ _ _ (c .before .before .before .before .before .line-by .ensures) (not-false _ (c .before .before .before .before .if1 .left))) (c .before .before .judge-field .ensures) (c .before .if2 .left)
+room : (c : tie.After-field-of Inv-loop μ-loop) → c .before .before .before .before .before .before .before .before .loop .x .n < 256
+room c = line-room (fields-kept _) (c .before .before .before .before .before .before .before .before .loop .inv) (found _ _ _ (said-cut (c .before .before .before .before .before .before .line-into .ensures)) (not-false _ (c .before .before .before .before .before .if1 .left))) (c .before .before .before .judge-field .ensures) (c .before .before .if2 .left)
 
-mul-t17 : tie.Need-mul-t17 Inv-loop μ-loop
-mul-t17 c = omega (arith, room c)
+mul-t20 : tie.Need-mul-t20 Inv-loop μ-loop
+mul-t20 c = omega (arith, room c)
 
 element-set-from-x : tie.Need-element-set-from-x Inv-loop μ-loop
 element-set-from-x c = room c
@@ -58,15 +59,15 @@ add-x : tie.Need-add-x Inv-loop μ-loop
 add-x c = omega (arith, room c)
 
 moved-requires : tie.Need-moved-requires Inv-loop μ-loop
-moved-requires c κs = let d = (found _ _ _ (c .before .before .before .before .before .line-by .ensures) (not-false _ (c .before .before .before .before .if1 .left))) in omega (arith, d .taken .next, c .before .before .before .before .before .before .loop .inv .within .line)
+moved-requires c κs = let d = (found _ _ _ (said-cut (c .before .before .before .before .before .before .line-into .ensures)) (not-false _ (c .before .before .before .before .before .if1 .left))) in omega (arith, d .taken .next, c .before .before .before .before .before .before .before .before .loop .inv .within .line)
 
 loop-less : tie.Need-loop-less Inv-loop μ-loop
 loop-less c =
-    let d = (found _ _ _ (c .before .before .before .before .before .before .line-by .ensures) (not-false _ (c .before .before .before .before .before .if1 .left))) in
-    rw (c .moved .ensures) (omega (arith, moved-within (c .before .before .before .before .before .before .before .loop .inv .within) d .at, d .taken .next))
+    let d = (found _ _ _ (said-cut (c .before .before .before .before .before .before .before .line-into .ensures)) (not-false _ (c .before .before .before .before .before .before .if1 .left))) in
+    rw (c .moved .ensures) (omega (arith, moved-within (c .before .before .before .before .before .before .before .before .before .loop .inv .within) d .at, d .taken .next))
 
 loop-again : tie.Need-loop-again Inv-loop μ-loop
-loop-again c = rw (c .moved .ensures) (line-on (fields-kept _) (c .before .before .before .before .before .before .before .loop .inv) (found _ _ _ (c .before .before .before .before .before .before .line-by .ensures) (not-false _ (c .before .before .before .before .before .if1 .left))) (c .before .before .before .judge-field .ensures) (c .before .field-of .ensures) (c .before .before .if2 .left))
+loop-again c = rw (c .moved .ensures) (line-on (fields-kept _) (c .before .before .before .before .before .before .before .before .before .loop .inv) (found _ _ _ (said-cut (c .before .before .before .before .before .before .before .line-into .ensures)) (not-false _ (c .before .before .before .before .before .before .if1 .left))) (c .before .before .before .before .judge-field .ensures) (c .before .field-of .ensures) (c .before .before .before .if2 .left))
 
 pub read-fields-spec : {M : Type 1} → statement M
 read-fields-spec =
@@ -76,12 +77,12 @@ read-fields-spec =
     μ-loop
     no-fields-requires
     loop-holds
-    line-by-requires
+    line-into-requires
     returns
     judge-field-requires
     returns-2
     field-of-requires
-    mul-t17
+    mul-t20
     element-set-from-x
     add-x
     moved-requires

@@ -1,20 +1,21 @@
-// The steps 20 to 26 by value: one test for each premise, in the order 61, 62, 63; a refused step answers with the state as it was.
+// The steps 20 to 26 on rows that are lent: one test for each premise, in the order 61, 62, 63; a refused step writes nothing.
 ghost use mathlib.Core.Path.{_≡_};
-ghost use Prim.Native.Nat.{_+_, _*_, _≤_};
+ghost use mathlib.Core.List.{List, map};
+ghost use Prim.Native.Nat.{ℕ, _+_, _*_, _≤_, _<_};
+ghost use lib.ListN.{length};
 ghost use Rattle.meaning.specs.Lists.{any};
 ghost use Rattle.meaning.specs.Tables.{Package};
 ghost use Rattle.meaning.specs.Tests.{subtype};
 ghost use Rattle.runs.specs.Machine.{widen, new, checkcast, getstatic, putstatic, getfield, putfield, fieldLink};
 ghost use Rattle.runs.specs.Steps.{holdsBelow, isA, step};
-ghost use Rattle.state.specs.View.{labelView, linkView, frameView, poolFrom, view};
-ghost use Rattle.state.specs.Fine.{Fine, doneOf};
+ghost use Rattle.state.specs.View.{labelView, linkView, frameView, poolFrom};
+ghost use Rattle.live.specs.Live.{labelOf, linkOf, stateOf, movedTo};
 ghost use Rattle.permits.specs.Keys.{Pairs, Exact, Alike};
 ghost use Rattle.moves.specs.Linked.{readBy, writtenBy};
 ghost use Rattle.moves.specs.Below.{Supers, belowBy, labelBelow, objectBelow};
-use state::Done;
-use state::Label;
-use state::Link;
-use state::State;
+ghost use Rattle.moves.specs.Answers.{Answers};
+use live::Counts;
+use live::Moved;
 
 fn index(c: u8) -> usize
     ensures { λ r. ⌜ r ≡ c ⌝ }
@@ -39,33 +40,32 @@ pub fn below(rows: &[u64; 254], a: u8, b: u8) -> bool
     bits::wide_has(rows, index(a), index(b))
 }
 
-fn label_below(rows: &[u64; 254], l: Label, r: u8, b: u8) -> bool
-    ensures { λ x. ⌜ x ≡ labelBelow (now (rows .entry)) r b (labelView l) ⌝ }
+fn label_below(rows: &[u64; 254], l: u16, r: u8, b: u8) -> bool
+    ensures { λ x. ⌜ x ≡ labelBelow (now (rows .entry)) r b (labelView (labelOf l)) ⌝ }
 {
-    if l.r != r {
+    if l / 256 != (r as u16) {
         return false;
     }
-    below(rows, l.c, b)
+    below(rows, (l % 256) as u8, b)
 }
 
 // Whether the frame at this depth, of n labels, has r at a subtype of b.
 pub fn has_below(
     rows: &[u64; 254],
-    labels: [Label; 544],
+    labels: &[u16; 544],
     depth: usize,
     n: usize,
     r: u8,
     b: u8,
 ) -> bool
     requires { ⌜ 32 * depth + n ≤ 544 ⌝ }
-    ensures { λ x. ⌜ x ≡ any (labelBelow (now (rows .entry)) r b) (frameView labels depth n) ⌝ }
-    ensures { λ x. ⌜ ((P : Package) → Supers P (now (rows .entry)) → x ≡ holdsBelow P (frameView labels depth n) r b) ⌝ }
+    ensures { λ x. ⌜ (32 * depth + n ≤ length (now (labels .entry)) → x ≡ any (labelBelow (now (rows .entry)) r b) (frameView (map labelOf (now (labels .entry))) depth n)) ⌝ }
+    ensures { λ x. ⌜ ((P : Package) → Supers P (now (rows .entry)) → 32 * depth + n ≤ length (now (labels .entry)) → x ≡ holdsBelow P (frameView (map labelOf (now (labels .entry))) depth n) r b) ⌝ }
 {
     let base = 32 * depth;
     let mut i = 0;
     while i < n {
-        let l = labels[base + i];
-        if label_below(rows, l, r, b) {
+        if label_below(rows, labels[base + i], r, b) {
             return true;
         }
         i += 1;
@@ -74,9 +74,9 @@ pub fn has_below(
 }
 
 // Whether r is the number of an object whose class is a subtype of b.
-pub fn is_a(rows: &[u64; 254], pool: [u8; 256], r: u8, b: u8) -> bool
-    ensures { λ x. ⌜ x ≡ any (objectBelow (now (rows .entry)) r b) (poolFrom 0 pool) ⌝ }
-    ensures { λ x. ⌜ ((P : Package) → Supers P (now (rows .entry)) → x ≡ isA P (poolFrom 0 pool) r b) ⌝ }
+pub fn is_a(rows: &[u64; 254], pool: &[u8; 256], r: u8, b: u8) -> bool
+    ensures { λ x. ⌜ (r < length (now (pool .entry)) → x ≡ any (objectBelow (now (rows .entry)) r b) (poolFrom 0 (now (pool .entry)))) ⌝ }
+    ensures { λ x. ⌜ ((P : Package) → Supers P (now (rows .entry)) → r < length (now (pool .entry)) → x ≡ isA P (poolFrom 0 (now (pool .entry))) r b) ⌝ }
 {
     let c = pool[r as usize];
     if c == 255 {
@@ -86,173 +86,195 @@ pub fn is_a(rows: &[u64; 254], pool: [u8; 256], r: u8, b: u8) -> bool
 }
 
 // 20 rr bb
-pub fn widen(s: State, rows: &[u64; 254], r: u8, b: u8) -> Done
-    requires { ⌜ Fine s ⌝ }
+pub fn widen(labels: &mut [u16; 544], at: Counts, rows: &[u64; 254], r: u8, b: u8) -> Moved
+    requires { ⌜ (at .n ≤ 32) × (at .depth ≤ 16) ⌝ }
     requires { ⌜ ((P : Package) × Supers P (now rows)) ⌝ }
-    ensures { λ d. ⌜ ((P : Package) → Supers P (now (rows .entry)) → d ≡ doneOf s (step P (view s) (widen r b))) ⌝ }
+    ensures { λ m. ⌜ ((P : Package) → Supers P (now (rows .entry)) → (ks os cs : List ℕ) → Answers (λ t. step P t (widen r b)) (stateOf (now (labels .entry)) ks os cs at) (movedTo m (now (labels .exit)) ks os cs)) ⌝ }
 {
-    let labels = s.labels;
-    let depth = s.depth;
-    let n = s.n;
-    if !has_below(rows, labels, depth, n, r, b) {
-        return Done { code: 62, state: s };
+    if !has_below(rows, labels, at.depth, at.n, r, b) {
+        return Moved { code: 62, now: at };
     }
-    state::add_label(s, r, b)
+    live::add_label(labels, at, r, b)
 }
 
 // 21 rr bb
-pub fn new(s: State, exact: &[u32], r: u8, b: u8) -> Done
-    requires { ⌜ Fine s ⌝ }
+pub fn new(
+    labels: &mut [u16; 544],
+    pool: &mut [u8; 256],
+    at: Counts,
+    exact: &[u32],
+    r: u8,
+    b: u8,
+) -> Moved
+    requires { ⌜ (at .n ≤ 32) × (at .depth ≤ 16) ⌝ }
     requires { ⌜ ((P : Package) × Exact P (now exact)) ⌝ }
-    ensures { λ d. ⌜ ((P : Package) → Exact P (now (exact .entry)) → d ≡ doneOf s (step P (view s) (new r b))) ⌝ }
+    ensures { λ m. ⌜ ((P : Package) → Exact P (now (exact .entry)) → (ks cs : List ℕ) → Answers (λ t. step P t (new r b)) (stateOf (now (labels .entry)) ks (now (pool .entry)) cs at) (movedTo m (now (labels .exit)) ks (now (pool .exit)) cs)) ⌝ }
 {
-    let pool = s.pool;
-    let taken = state::in_pool(pool, r);
-    let allowed = permits::permitted(exact, s.method, 0, b);
+    let taken = pool[r as usize] != 255;
+    let allowed = permits::permitted(exact, at.method, 0, b);
     if !allowed {
-        return Done { code: 61, state: s }; // whether or not the number is taken
+        return Moved { code: 61, now: at }; // whether or not the number is taken
     }
     if taken {
-        return Done { code: 62, state: s }; // no new number
+        return Moved { code: 62, now: at }; // no new number
     }
-    state::add_object(s, r, b)
+    live::add_object(labels, pool, at, r, b)
 }
 
 // 22 rr bb
-pub fn checkcast(s: State, exact: &[u32], rows: &[u64; 254], r: u8, b: u8) -> Done
-    requires { ⌜ Fine s ⌝ }
+pub fn checkcast(
+    labels: &mut [u16; 544],
+    pool: &[u8; 256],
+    at: Counts,
+    exact: &[u32],
+    rows: &[u64; 254],
+    r: u8,
+    b: u8,
+) -> Moved
+    requires { ⌜ (at .n ≤ 32) × (at .depth ≤ 16) ⌝ }
     requires { ⌜ ((P : Package) × (Exact P (now exact) × Supers P (now rows))) ⌝ }
-    ensures { λ d. ⌜ ((P : Package) → Exact P (now (exact .entry)) → Supers P (now (rows .entry)) → d ≡ doneOf s (step P (view s) (checkcast r b))) ⌝ }
+    ensures { λ m. ⌜ ((P : Package) → Exact P (now (exact .entry)) → Supers P (now (rows .entry)) → (ks cs : List ℕ) → Answers (λ t. step P t (checkcast r b)) (stateOf (now (labels .entry)) ks (now (pool .entry)) cs at) (movedTo m (now (labels .exit)) ks (now (pool .entry)) cs)) ⌝ }
 {
-    if !permits::permitted(exact, s.method, 1, b) {
-        return Done { code: 61, state: s };
+    if !permits::permitted(exact, at.method, 1, b) {
+        return Moved { code: 61, now: at };
     }
-    let labels = s.labels;
-    let depth = s.depth;
-    let n = s.n;
-    if !state::has_ref(labels, depth, n, r) {
-        return Done { code: 62, state: s };
+    if !live::has_ref(labels, at.depth, at.n, r) {
+        return Moved { code: 62, now: at };
     }
-    let pool = s.pool;
     if !is_a(rows, pool, r, b) {
-        return Done { code: 62, state: s };
+        return Moved { code: 62, now: at };
     }
-    state::add_label(s, r, b)
+    live::add_label(labels, at, r, b)
 }
 
-// The link of a field: it carries the declaring class and the type.
-fn link_of(pairs: &[u16; 256], owner: u8, f: u8, target: u8) -> Link
-    ensures { λ k. ⌜ ((P : Package) → Pairs P (now (pairs .entry)) → linkView k ≡ fieldLink P f owner target) ⌝ }
+// The number of a field's link: it carries the declaring class and the type.
+fn link_of(pairs: &[u16; 256], owner: u8, f: u8, target: u8) -> u32
+    ensures { λ k. ⌜ ((P : Package) → Pairs P (now (pairs .entry)) → linkView (linkOf k) ≡ fieldLink P f owner target) ⌝ }
 {
-    Link {
-        owner: owner,
-        declared: permits::class_of(pairs, f),
-        typ: permits::type_of(pairs, f),
-        target: target,
-    }
+    live::link_number(
+        owner,
+        permits::class_of(pairs, f),
+        permits::type_of(pairs, f),
+        target,
+    )
 }
 
 // The target of a link that is there joins the running frame at the link's type.
-fn read(s: State, k: Link) -> Done
-    requires { ⌜ Fine s ⌝ }
-    ensures { λ d. ⌜ d ≡ doneOf s (readBy (view s) (linkView k)) ⌝ }
+fn read(labels: &mut [u16; 544], links: &[u32; 256], at: Counts, k: u32) -> Moved
+    requires { ⌜ (at .nlinks ≤ 256) × ((at .n ≤ 32) × (at .depth ≤ 16)) ⌝ }
+    ensures { λ m. ⌜ ((os cs : List ℕ) → Answers (λ t. readBy t (linkView (linkOf k))) (stateOf (now (labels .entry)) (now (links .entry)) os cs at) (movedTo m (now (labels .exit)) (now (links .entry)) os cs)) ⌝ }
 {
-    let links = s.links;
-    let n = s.nlinks;
-    if !state::has_link(links, n, k) {
-        return Done { code: 62, state: s };
+    if !live::has_link(links, at.nlinks, k) {
+        return Moved { code: 62, now: at };
     }
-    state::add_label(s, k.target, k.typ)
+    live::add_label(labels, at, (k % 256) as u8, (k / 256 % 256) as u8)
 }
 
 // A link whose target the running frame holds at the link's type joins the links.
-fn write(s: State, k: Link) -> Done
-    requires { ⌜ Fine s ⌝ }
-    ensures { λ d. ⌜ d ≡ doneOf s (writtenBy (view s) (linkView k)) ⌝ }
+fn write(labels: &[u16; 544], links: &mut [u32; 256], at: Counts, k: u32) -> Moved
+    requires { ⌜ (at .nlinks ≤ 256) × ((at .n ≤ 32) × (at .depth ≤ 16)) ⌝ }
+    ensures { λ m. ⌜ ((os cs : List ℕ) → Answers (λ t. writtenBy t (linkView (linkOf k))) (stateOf (now (labels .entry)) (now (links .entry)) os cs at) (movedTo m (now (labels .entry)) (now (links .exit)) os cs)) ⌝ }
 {
-    let labels = s.labels;
-    let depth = s.depth;
-    let n = s.n;
-    if !state::has_label(labels, depth, n, k.target, k.typ) {
-        return Done { code: 62, state: s };
+    if !live::has_label(
+        labels,
+        at.depth,
+        at.n,
+        (k % 256) as u8,
+        (k / 256 % 256) as u8,
+    ) {
+        return Moved { code: 62, now: at };
     }
-    state::add_link(s, k)
+    live::add_link(links, at, k)
 }
 
 // 23 ff qq
-pub fn getstatic(s: State, alike: &[u32], pairs: &[u16; 256], f: u8, q: u8) -> Done
-    requires { ⌜ Fine s ⌝ }
+pub fn getstatic(
+    labels: &mut [u16; 544],
+    links: &[u32; 256],
+    at: Counts,
+    alike: &[u32],
+    pairs: &[u16; 256],
+    f: u8,
+    q: u8,
+) -> Moved
+    requires { ⌜ (at .nlinks ≤ 256) × ((at .n ≤ 32) × (at .depth ≤ 16)) ⌝ }
     requires { ⌜ ((P : Package) × (Pairs P (now pairs) × Alike P (now alike))) ⌝ }
-    ensures { λ d. ⌜ ((P : Package) → Pairs P (now (pairs .entry)) → Alike P (now (alike .entry)) → d ≡ doneOf s (step P (view s) (getstatic f q))) ⌝ }
+    ensures { λ m. ⌜ ((P : Package) → Pairs P (now (pairs .entry)) → Alike P (now (alike .entry)) → (os cs : List ℕ) → Answers (λ t. step P t (getstatic f q)) (stateOf (now (labels .entry)) (now (links .entry)) os cs at) (movedTo m (now (labels .exit)) (now (links .entry)) os cs)) ⌝ }
 {
-    if !permits::permitted_field(alike, pairs, s.method, 2, f) {
-        return Done { code: 61, state: s };
+    if !permits::permitted_field(alike, pairs, at.method, 2, f) {
+        return Moved { code: 61, now: at };
     }
-    read(s, link_of(pairs, 255, f, q))
+    read(labels, links, at, link_of(pairs, 255, f, q))
 }
 
 // 24 ff qq
-pub fn putstatic(s: State, alike: &[u32], pairs: &[u16; 256], f: u8, q: u8) -> Done
-    requires { ⌜ Fine s ⌝ }
+pub fn putstatic(
+    labels: &[u16; 544],
+    links: &mut [u32; 256],
+    at: Counts,
+    alike: &[u32],
+    pairs: &[u16; 256],
+    f: u8,
+    q: u8,
+) -> Moved
+    requires { ⌜ (at .nlinks ≤ 256) × ((at .n ≤ 32) × (at .depth ≤ 16)) ⌝ }
     requires { ⌜ ((P : Package) × (Pairs P (now pairs) × Alike P (now alike))) ⌝ }
-    ensures { λ d. ⌜ ((P : Package) → Pairs P (now (pairs .entry)) → Alike P (now (alike .entry)) → d ≡ doneOf s (step P (view s) (putstatic f q))) ⌝ }
+    ensures { λ m. ⌜ ((P : Package) → Pairs P (now (pairs .entry)) → Alike P (now (alike .entry)) → (os cs : List ℕ) → Answers (λ t. step P t (putstatic f q)) (stateOf (now (labels .entry)) (now (links .entry)) os cs at) (movedTo m (now (labels .entry)) (now (links .exit)) os cs)) ⌝ }
 {
-    if !permits::permitted_field(alike, pairs, s.method, 3, f) {
-        return Done { code: 61, state: s };
+    if !permits::permitted_field(alike, pairs, at.method, 3, f) {
+        return Moved { code: 61, now: at };
     }
-    write(s, link_of(pairs, 255, f, q))
+    write(labels, links, at, link_of(pairs, 255, f, q))
 }
 
 // 25 ff pp qq
 pub fn getfield(
-    s: State,
+    labels: &mut [u16; 544],
+    links: &[u32; 256],
+    at: Counts,
     alike: &[u32],
     pairs: &[u16; 256],
     rows: &[u64; 254],
     f: u8,
     p: u8,
     q: u8,
-) -> Done
-    requires { ⌜ Fine s ⌝ }
+) -> Moved
+    requires { ⌜ (at .nlinks ≤ 256) × ((at .n ≤ 32) × (at .depth ≤ 16)) ⌝ }
     requires { ⌜ ((P : Package) × (Pairs P (now pairs) × (Alike P (now alike) × Supers P (now rows)))) ⌝ }
-    ensures { λ d. ⌜ ((P : Package) → Pairs P (now (pairs .entry)) → Alike P (now (alike .entry)) → Supers P (now (rows .entry)) → d ≡ doneOf s (step P (view s) (getfield f p q))) ⌝ }
+    ensures { λ m. ⌜ ((P : Package) → Pairs P (now (pairs .entry)) → Alike P (now (alike .entry)) → Supers P (now (rows .entry)) → (os cs : List ℕ) → Answers (λ t. step P t (getfield f p q)) (stateOf (now (labels .entry)) (now (links .entry)) os cs at) (movedTo m (now (labels .exit)) (now (links .entry)) os cs)) ⌝ }
 {
-    if !permits::permitted_field(alike, pairs, s.method, 4, f) {
-        return Done { code: 61, state: s };
+    if !permits::permitted_field(alike, pairs, at.method, 4, f) {
+        return Moved { code: 61, now: at };
     }
     let k = link_of(pairs, p, f, q);
-    let labels = s.labels;
-    let depth = s.depth;
-    let n = s.n;
-    if !has_below(rows, labels, depth, n, p, k.declared) {
-        return Done { code: 62, state: s };
+    if !has_below(rows, labels, at.depth, at.n, p, (k / 65536 % 256) as u8) {
+        return Moved { code: 62, now: at };
     }
-    read(s, k)
+    read(labels, links, at, k)
 }
 
 // 26 ff pp qq
 pub fn putfield(
-    s: State,
+    labels: &[u16; 544],
+    links: &mut [u32; 256],
+    at: Counts,
     alike: &[u32],
     pairs: &[u16; 256],
     rows: &[u64; 254],
     f: u8,
     p: u8,
     q: u8,
-) -> Done
-    requires { ⌜ Fine s ⌝ }
+) -> Moved
+    requires { ⌜ (at .nlinks ≤ 256) × ((at .n ≤ 32) × (at .depth ≤ 16)) ⌝ }
     requires { ⌜ ((P : Package) × (Pairs P (now pairs) × (Alike P (now alike) × Supers P (now rows)))) ⌝ }
-    ensures { λ d. ⌜ ((P : Package) → Pairs P (now (pairs .entry)) → Alike P (now (alike .entry)) → Supers P (now (rows .entry)) → d ≡ doneOf s (step P (view s) (putfield f p q))) ⌝ }
+    ensures { λ m. ⌜ ((P : Package) → Pairs P (now (pairs .entry)) → Alike P (now (alike .entry)) → Supers P (now (rows .entry)) → (os cs : List ℕ) → Answers (λ t. step P t (putfield f p q)) (stateOf (now (labels .entry)) (now (links .entry)) os cs at) (movedTo m (now (labels .entry)) (now (links .exit)) os cs)) ⌝ }
 {
-    if !permits::permitted_field(alike, pairs, s.method, 5, f) {
-        return Done { code: 61, state: s };
+    if !permits::permitted_field(alike, pairs, at.method, 5, f) {
+        return Moved { code: 61, now: at };
     }
     let k = link_of(pairs, p, f, q);
-    let labels = s.labels;
-    let depth = s.depth;
-    let n = s.n;
-    if !has_below(rows, labels, depth, n, p, k.declared) {
-        return Done { code: 62, state: s };
+    if !has_below(rows, labels, at.depth, at.n, p, (k / 65536 % 256) as u8) {
+        return Moved { code: 62, now: at };
     }
-    write(s, k)
+    write(labels, links, at, k)
 }

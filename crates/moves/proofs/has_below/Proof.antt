@@ -1,42 +1,49 @@
 -- `moves::has_below` meets its contract. The loop's invariant: the frame has r at a subtype exactly where what is left of it has.
 -- Assumes nothing.
-use Prim.Native.Nat.{_+_, _*_, _-_, _≤_}
+use Prim.Native.Nat.{ℕ, _+_, _*_, _-_, _≤_}
 use native.Mathlib.Omega.{arith}
-use mathlib.Core.Path.{_≡_, sym, _∙_}
-use lib.ListN.{length}
+use mathlib.Core.Path.{_≡_, sym, ap, _∙_}
+use mathlib.Core.List.{map}
+use lib.ListN.{length, getD, length-map, List·getD-map}
 use borrow.Author.Needs.{needs}
-use Rattle.tables.proofs.Access.{long}
+use Rattle.state.specs.declared.Label.{Label}
 use Rattle.state.specs.View.{noLabel, labelView, frameView}
 use Rattle.state.proofs.Seen.{Unseen, unseen-none, window-more, window-hit, window-end}
+use Rattle.live.specs.Live.{labelOf}
 use Rattle.moves.specs.Below.{labelBelow}
-use Rattle.moves.proofs.Subtypes.{holds-below, says}
+use Rattle.moves.proofs.Subtypes.{holds-below, says-where}
 use Rattle.moves.proofs.has_below.Statement.{statement}
 use Rattle.moves.proofs.has_below.Tie as tie
 
 abbrev Inv-loop : tie.InvT-loop
-Inv-loop rows depth n r b labels base i₀ i = (i ≤ n) × Unseen (labelBelow rows r b) (frameView labels depth n) i
+Inv-loop rows labels depth n r b base i₀ i = (i ≤ n) × (32 * depth + n ≤ length labels → Unseen (labelBelow rows r b) (frameView (map labelOf labels) depth n) i)
 
 abbrev μ-loop : tie.MeasureT-loop
-μ-loop rows depth n r b labels base i₀ i = n - i
+μ-loop rows labels depth n r b base i₀ i = n - i
 
--- the frame lies within the array
-fits : (c : tie.Start Inv-loop μ-loop) → 32 * c .args .depth + c .args .n ≤ length (c .args .t2)
-fits c = let h : length (c .args .t2) ≡ 544 = search (needs, long) in omega (arith, c .pre)
+module _ (c : tie.Start Inv-loop μ-loop) where
+  -- the frame lies within the array
+  fits : 32 * c .args .depth + c .args .n ≤ length (c .args .labels .now) → 32 * c .args .depth + c .args .n ≤ length (map labelOf (c .args .labels .now))
+  fits h = rw (length-map (c .args .labels .now) labelOf) h
+
+  -- the label that stands at a place
+  at : (i : ℕ) → labelBelow (c .args .rows .now) (c .args .r) (c .args .b) (labelView (getD (map labelOf (c .args .labels .now)) (32 * c .args .depth + i) noLabel)) ≡ labelBelow (c .args .rows .now) (c .args .r) (c .args .b) (labelView (labelOf (getD (c .args .labels .now) (32 * c .args .depth + i) 0)))
+  at i = ap (λ (l : Label). labelBelow (c .args .rows .now) (c .args .r) (c .args .b) (labelView l)) (List·getD-map labelOf (c .args .labels .now) (32 * c .args .depth + i) 0)
 
 mul-base : tie.Need-mul-base Inv-loop μ-loop
 mul-base c = search needs
 
 loop-holds : tie.Need-loop-holds Inv-loop μ-loop
-loop-holds c = (search needs, unseen-none _ _)
+loop-holds c = (search needs, λ h. unseen-none _ _)
 
-add-l : tie.Need-add-l Inv-loop μ-loop
-add-l c = search needs
+add-label-below : tie.Need-add-label-below Inv-loop μ-loop
+add-label-below c = search needs
 
-mul-l : tie.Need-mul-l Inv-loop μ-loop
-mul-l c = search needs
+mul-label-below : tie.Need-mul-label-below Inv-loop μ-loop
+mul-label-below c = search needs
 
-array-copy-out-l : tie.Need-array-copy-out-l Inv-loop μ-loop
-array-copy-out-l c = search needs
+element-copy-out-label-below : tie.Need-element-copy-out-label-below Inv-loop μ-loop
+element-copy-out-label-below c = search needs
 
 label-below-requires : tie.Need-label-below-requires Inv-loop μ-loop
 label-below-requires c κs = search needs
@@ -45,7 +52,7 @@ returns : tie.Need-returns Inv-loop μ-loop
 unfolding frameView
 returns c =
     let s = c .before .before .before .before in
-    says (λ P w. holds-below w _ _ _) (window-hit labelView (s .before .args .t2) _ _ (fits (s .before)) _ noLabel (s .loop .i) (s .loop .inv .1) (search needs) (sym (c .before .label-below .ensures) ∙ c .if1 .taken))
+    says-where (λ P w. holds-below w _ _ _) (λ h. window-hit labelView (map labelOf (s .before .args .labels .now)) _ _ (fits (s .before) h) _ noLabel (s .loop .i) (s .loop .inv .1 h) (search needs) (at (s .before) (s .loop .i) ∙ sym (c .before .label-below .ensures) ∙ c .if1 .taken))
 
 add-i : tie.Need-add-i Inv-loop μ-loop
 add-i c = search needs
@@ -57,11 +64,11 @@ loop-again : tie.Need-loop-again Inv-loop μ-loop
 unfolding frameView
 loop-again c =
     let s = c .before .before .before .before in
-    (search needs, window-more labelView (s .before .args .t2) _ _ (fits (s .before)) _ noLabel (s .loop .i) (s .loop .inv .1) (search needs) (sym (c .before .label-below .ensures) ∙ c .if1 .left))
+    (search needs, λ h. window-more labelView (map labelOf (s .before .args .labels .now)) _ _ (fits (s .before) h) _ noLabel (s .loop .i) (s .loop .inv .1 h) (search needs) (at (s .before) (s .loop .i) ∙ sym (c .before .label-below .ensures) ∙ c .if1 .left))
 
 returns-2 : tie.Need-returns-2 Inv-loop μ-loop
 unfolding frameView
-returns-2 c = let s = c .before in says (λ P w. holds-below w _ _ _) (window-end labelView (s .before .args .t2) _ _ (fits (s .before)) _ noLabel (s .loop .i) (s .loop .inv .1) (search needs))
+returns-2 c = let s = c .before in says-where (λ P w. holds-below w _ _ _) (λ h. window-end labelView (map labelOf (s .before .args .labels .now)) _ _ (fits (s .before) h) _ noLabel (s .loop .i) (s .loop .inv .1 h) (search needs))
 
 pub has-below-spec : {M : Type 1} → statement M
 has-below-spec =
@@ -71,9 +78,9 @@ has-below-spec =
     μ-loop
     mul-base
     loop-holds
-    add-l
-    mul-l
-    array-copy-out-l
+    add-label-below
+    mul-label-below
+    element-copy-out-label-below
     label-below-requires
     returns
     add-i

@@ -9,6 +9,9 @@ returns : tie.Need-returns
 unfolding labelBelow
 returns c = rw (ne-eqb _ _ (c .if1 .taken))
 
+cast-below : tie.Need-cast-below
+cast-below c = search needs
+
 below-requires : tie.Need-below-requires
 below-requires c κs = search needs
 
@@ -17,4 +20,4 @@ unfolding labelBelow
 returns-2 c = rw (eq-eqb _ _ (c .before .if1 .left)) (c .below .ensures .0)
 
 pub label-below-spec : {M : Type 1} → statement M
-label-below-spec = tie.close (tie.spec returns below-requires returns-2)
+label-below-spec = tie.close (tie.spec returns cast-below below-requires returns-2)

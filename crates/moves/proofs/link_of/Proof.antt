@@ -1,5 +1,10 @@
 -- `moves::link_of` meets its contract: a link carries the field's declaring class and type. Assumes nothing.
+use mathlib.Core.Path.{ap, _∙_}
+use Prim.Native.Nat.{ℕ}
 use borrow.Author.Needs.{needs}
+use Rattle.state.specs.View.{linkView}
+use Rattle.live.specs.Live.{linkOf}
+use Rattle.moves.proofs.Lent.{link-of}
 use Rattle.moves.proofs.link_of.Statement.{statement}
 use Rattle.moves.proofs.link_of.Tie as tie
 
@@ -9,9 +14,14 @@ class-of-requires c κs = search needs
 type-of-requires : tie.Need-type-of-requires
 type-of-requires c κs = search needs
 
+link-number-requires : tie.Need-link-number-requires
+link-number-requires c κs = search needs
+
 returns : tie.Need-returns
-returns c = λ P p i.
-    record { owner = c .before .before .args .owner; declared = c .before .class-of .ensures .1 P p i; type = c .type-of .ensures .1 P p i; target = c .before .before .args .target }
+returns c = λ P p.
+    ap (λ (k : ℕ). linkView (linkOf k)) (c .link-number .ensures)
+    ∙ ap linkView (link-of _ _ _ _ (search needs) (search needs) (search needs))
+    ∙ λ i. record { owner = c .before .before .before .args .owner; declared = c .before .before .class-of .ensures .1 P p i; type = c .before .type-of .ensures .1 P p i; target = c .before .before .before .args .target }
 
 pub link-of-spec : {M : Type 1} → statement M
-link-of-spec = tie.close (tie.spec class-of-requires type-of-requires returns)
+link-of-spec = tie.close (tie.spec class-of-requires type-of-requires link-number-requires returns)

@@ -49,7 +49,8 @@ fn label_below(rows: &[u64; 254], l: u16, r: u8, b: u8) -> bool
     below(rows, (l % 256) as u8, b)
 }
 
-// Whether the frame at this depth, of n labels, has r at a subtype of b.
+// Whether the frame at this depth, of n labels, has r at a subtype of b. (Of a row that is lent the list alone is known, and not that it is
+// as long as its type says: so what is said of it here is said where it is long enough, as a fine state's rows are.)
 pub fn has_below(
     rows: &[u64; 254],
     labels: &[u16; 544],

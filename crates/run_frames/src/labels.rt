@@ -13,7 +13,7 @@ pub fn judge_label(nc: usize, n: usize, pool: [u8; 256], rows: &[u64; 254], f: F
     let r = f.b[1];
     let c = f.b[2];
     let declared = state::in_pool(pool, r) & tests::below(c, nc);
-    let typed = moves::is_a(rows, pool, r, c);
+    let typed = moves::is_a(rows, &pool, r, c);
     tests::judge(n < 32, text::fits(f), declared, typed)
 }
 

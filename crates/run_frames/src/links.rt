@@ -59,7 +59,7 @@ pub fn judge_static_link(
         & tests::below(t, nc)
         & some_field(fields, c, t, 1)
         & state::in_pool(pool, q);
-    let typed = moves::is_a(rows, pool, q, t);
+    let typed = moves::is_a(rows, &pool, q, t);
     tests::judge(n < 256, text::fits(f), declared, typed)
 }
 
@@ -82,7 +82,7 @@ pub fn judge_object_link(
         & tests::below(t, nc)
         & some_field(fields, c, t, 0)
         & state::in_pool(pool, q);
-    let typed = moves::is_a(rows, pool, q, t) & moves::is_a(rows, pool, p, c);
+    let typed = moves::is_a(rows, &pool, q, t) & moves::is_a(rows, &pool, p, c);
     tests::judge(n < 256, text::fits(f), declared, typed)
 }
 

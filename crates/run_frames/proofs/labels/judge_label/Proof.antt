@@ -1,7 +1,10 @@
 -- `judge_label` puts its tests together.
 -- Assumes nothing.
+use mathlib.Core.Path.{_∙_}
+use lib.ListN.{getD}
 use Rattle.run_frames.specs.Judging.{judgeLabel}
 use borrow.Author.Needs.{needs}
+use Rattle.run_frames.proofs.Pools.{has-place}
 use Rattle.run_frames.proofs.labels.judge_label.Statement.{statement}
 use Rattle.run_frames.proofs.labels.judge_label.Tie as tie
 
@@ -28,7 +31,10 @@ judge-requires c κs = search needs
 
 returns : tie.Need-returns
 unfolding judgeLabel
-returns c = cc
+returns c =
+    let a = c .before .before .before .before .before .before .before .before .args in
+    let h = has-place (a .t3) (getD (a .t5 .b) 1 0) (search needs) (search needs) in
+    c .judge .ensures ∙ rw (c .before .fits2 .ensures, c .before .before .is-a .ensures .0 h, c .before .before .before .before .below .ensures, c .before .before .before .before .before .in-pool .ensures)
 
 pub judge-label-spec : {M : Type 1} → statement M
 judge-label-spec =

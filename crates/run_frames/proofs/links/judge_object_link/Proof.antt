@@ -1,8 +1,11 @@
 -- `judge_object_link` puts its tests together.
 -- Assumes nothing.
+use Prim.Native.Nat.{ℕ, _<_}
 use mathlib.Core.Path.{_∙_}
+use lib.ListN.{length, getD}
 use Rattle.run_frames.specs.Judging.{judgeObjectLink}
 use borrow.Author.Needs.{needs}
+use Rattle.run_frames.proofs.Pools.{has-place}
 use Rattle.run_frames.proofs.links.judge_object_link.Statement.{statement}
 use Rattle.run_frames.proofs.links.judge_object_link.Tie as tie
 
@@ -45,9 +48,15 @@ fits-requires c κs = search needs
 judge-requires : tie.Need-judge-requires
 judge-requires c κs = search needs
 
+-- each reference that the frame names has its place in the pool
+place : (c : tie.Start) (i : ℕ) → getD (c .args .t6 .b) i 0 < length (c .args .t4)
+place c i = has-place (c .args .t4) (getD (c .args .t6 .b) i 0) (search needs) (search needs)
+
 returns : tie.Need-returns
 unfolding judgeObjectLink
-returns c = c .judge .ensures ∙ rw (c .before .fits2 .ensures, c .before .before .is-a2 .ensures .0, c .before .before .before .is-a .ensures .0, c .before .before .before .before .in-pool2 .ensures, c .before .before .before .before .before .some-field .ensures, c .before .before .before .before .before .before .below2 .ensures, c .before .before .before .before .before .before .before .below .ensures, c .before .before .before .before .before .before .before .before .in-pool .ensures)
+returns c =
+    let s = c .before .before .before .before .before .before .before .before .before .before .before .before .before .before .before in
+    c .judge .ensures ∙ rw (c .before .fits2 .ensures, c .before .before .is-a2 .ensures .0 (place s 1), c .before .before .before .before .is-a .ensures .0 (place s 4), c .before .before .before .before .before .before .in-pool2 .ensures, c .before .before .before .before .before .before .before .some-field .ensures, c .before .before .before .before .before .before .before .before .below2 .ensures, c .before .before .before .before .before .before .before .before .before .below .ensures, c .before .before .before .before .before .before .before .before .before .before .in-pool .ensures)
 
 pub judge-object-link-spec : {M : Type 1} → statement M
 judge-object-link-spec =

@@ -1,8 +1,10 @@
 -- `judge_static_link` puts its tests together.
 -- Assumes nothing.
 use mathlib.Core.Path.{_∙_}
+use lib.ListN.{getD}
 use Rattle.run_frames.specs.Judging.{judgeStaticLink}
 use borrow.Author.Needs.{needs}
+use Rattle.run_frames.proofs.Pools.{has-place}
 use Rattle.run_frames.proofs.links.judge_static_link.Statement.{statement}
 use Rattle.run_frames.proofs.links.judge_static_link.Tie as tie
 
@@ -38,7 +40,10 @@ judge-requires c κs = search needs
 
 returns : tie.Need-returns
 unfolding judgeStaticLink
-returns c = c .judge .ensures ∙ rw (c .before .fits2 .ensures, c .before .before .is-a .ensures .0, c .before .before .before .in-pool .ensures, c .before .before .before .before .some-field .ensures, c .before .before .before .before .before .below2 .ensures, c .before .before .before .before .before .before .below .ensures)
+returns c =
+    let a = c .before .before .before .before .before .before .before .before .before .before .before .args in
+    let h = has-place (a .t4) (getD (a .t6 .b) 3 0) (search needs) (search needs) in
+    c .judge .ensures ∙ rw (c .before .fits2 .ensures, c .before .before .is-a .ensures .0 h, c .before .before .before .before .in-pool .ensures, c .before .before .before .before .before .some-field .ensures, c .before .before .before .before .before .before .below2 .ensures, c .before .before .before .before .before .before .before .below .ensures)
 
 pub judge-static-link-spec : {M : Type 1} → statement M
 judge-static-link-spec =

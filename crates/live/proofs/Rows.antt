@@ -1,25 +1,29 @@
 -- Rows of numbers as rows of structs: what a number means is known from its parts, a store into one is that store into the other, and how a
 -- loop that goes through all notes what it looks for.
 -- Assumes nothing.
-use Prim.Native.Nat.{ℕ, zero, suc, _+_, _-_, _*_, _/_, _%_, _≤_, _<_}
+use Prim.Native.Nat.{ℕ, zero, suc, _+_, _*_, _/_, _%_, _≤_, _<_}
 use native.Mathlib.Omega.{arith}
+use native.Mathlib.Decide.{decLt}
 use mathlib.Core.Path.{_≡_, refl, sym, ap, ap₂, _∙_}
 use mathlib.Core.Bool.{Bool, true, false}
 use mathlib.Core.List.{List, [], _∷_, _++_, map}
 use lib.Dec.{eqb}
-use lib.ListN.{length, take, drop, getD, set, replicate, length-map, length-append, List·getD-map}
+use lib.ListN.{length, take, drop, getD, set, length-map, length-append, List·getD-map}
 use Rattle.meaning.specs.Lists.{any}
+use Rattle.meaning.proofs.Lists.{getD-absent}
 use Rattle.meaning.proofs.Bools.{decides-eq, decides-and, decides-as, decides-same}
-use Rattle.tables.specs.Pack.{pad}
+use Rattle.tables.proofs.Pack.{pad-length}
+use Rattle.tables.proofs.Access.{pad-zero}
+use Rattle.runs.specs.Machine as M
 use Rattle.runs.specs.Machine.{label, sameLabel, sameLink}
 use Rattle.state.specs.declared.State.{State}
-use Rattle.state.specs.View.{noLabel, noLink, labelView, linkView, packLabel, packLink, packFrames, view, pack}
+use Rattle.state.specs.View.{noLabel, noLink, noSaved, labelView, linkView, packLabel, packLink, packContexts, packFrames, view, pack}
 use Rattle.state.specs.Fine.{Fine}
 use Rattle.state.proofs.Seen.{window-length, window-at}
-use Rattle.state.proofs.Packed.{frames-long, fine-within, storeLabel, storeLink}
+use Rattle.state.proofs.Packed.{contexts-length, frames-long, fine-within, storeLabel, storeLink}
 use Rattle.permits.proofs.Noted.{Noted, noted-here, noted-not, noted-all}
 use Rattle.live.specs.declared.Counts.{Counts}
-use Rattle.live.specs.Live.{labelOf, linkOf, labelNumber, stateOf}
+use Rattle.live.specs.Live.{labelOf, linkOf, savedOf, labelNumber, stateOf}
 
 -- ---- a number's parts
 
@@ -67,35 +71,50 @@ module _ (ls ks os cs : List ℕ) (at : Counts) where
   pub link-stored : (k : ℕ) → stateOf ls (set ks (at .nlinks) k) os cs (record { nlinks = at .nlinks + 1; n = at .n; depth = at .depth; method = at .method }) ≡ storeLink (stateOf ls ks os cs at) (linkOf k)
   link-stored k = rw (map-set linkOf ks (at .nlinks) k)
 
--- ---- a fine state's rows are long enough for its counts
-
-pad-long : {A : Type 0} (n : ℕ) (z : A) (xs : List A) → length xs ≤ length (pad n z xs)
-unfolding pad
-pad-long n z xs = rw (length-append xs (replicate (n - length xs) z)) (omega arith)
+-- ---- a fine state's rows have their lengths, and are long enough for its counts
 
 module _ (ls ks os cs : List ℕ) (at : Counts) (f : Fine (stateOf ls ks os cs at)) where
-  pub labels-long : 32 * at .depth + at .n ≤ length ls
+  abbrev means : M.State
+  means = view (stateOf ls ks os cs at)
+
+  pub labels-size : length ls ≡ 544
   unfolding pack
-  labels-long =
-      let t = view (stateOf ls ks os cs at) in
-      let xs = packFrames (t .saved) ++ map packLabel (t .labels) in
-      let e : length ls ≡ length (pad 544 noLabel xs) = sym (length-map ls labelOf) ∙ ap (λ (s : State). length (s .labels)) (f .packed) in
-      let n : length xs ≡ 32 * length (t .saved) + length (t .labels) = simp (length-append, length-map, frames-long t (fine-within f)) in
-      let d : at .depth ≡ length (t .saved) = ap (λ (s : State). s .depth) (f .packed) in
-      let c : at .n ≡ length (t .labels) = ap (λ (s : State). s .n) (f .packed) in
-      let p = pad-long 544 noLabel xs in
-      omega arith
+  labels-size =
+      let w = fine-within f in
+      let xs = packFrames (means .saved) ++ map packLabel (means .labels) in
+      let n : length xs ≡ 32 * length (means .saved) + length (means .labels) = simp (length-append, length-map, frames-long means w) in
+      sym (length-map ls labelOf) ∙ ap (λ (s : State). length (s .labels)) (f .packed) ∙ pad-length noLabel 544 xs (omega (arith, w .saved, w .labels))
+
+  pub links-size : length ks ≡ 256
+  unfolding pack
+  links-size =
+      sym (length-map ks linkOf) ∙ ap (λ (s : State). length (s .links)) (f .packed)
+      ∙ pad-length noLink 256 (map packLink (means .links)) (rw (length-map (means .links) packLink) (fine-within f .links))
+
+  pub saved-size : length cs ≡ 16
+  unfolding pack
+  saved-size =
+      sym (length-map cs savedOf) ∙ ap (λ (s : State). length (s .saved)) (f .packed)
+      ∙ pad-length noSaved 16 (packContexts (means .saved)) (rw (contexts-length (means .saved)) (fine-within f .saved))
+
+  pub labels-long : 32 * at .depth + at .n ≤ length ls
+  labels-long = omega (arith, labels-size, f .labels, f .depth)
 
   pub links-long : at .nlinks ≤ length ks
-  unfolding pack
-  links-long =
-      let t = view (stateOf ls ks os cs at) in
-      let xs = map packLink (t .links) in
-      let e : length ks ≡ length (pad 256 noLink xs) = sym (length-map ks linkOf) ∙ ap (λ (s : State). length (s .links)) (f .packed) in
-      let c : at .nlinks ≡ length (t .links) = ap (λ (s : State). s .nlinks) (f .packed) in
-      let n : length xs ≡ length (t .links) = length-map (t .links) packLink in
-      let p = pad-long 256 noLink xs in
-      omega arith
+  links-long = rw links-size (f .links)
+
+-- a saved frame's count, at every place
+pub saved-small : {s : State} → Fine s → (i : ℕ) → getD (s .saved) i noSaved .n < 65536
+unfolding pack
+saved-small {s} f i = on (decLt i (s .depth))
+  where
+    on : Dec (i < s .depth) → getD (s .saved) i noSaved .n < 65536
+    on (yes h) = omega (arith, f .saved i h)
+    on (no n) =
+        let d : s .depth ≡ length (view s .saved) = ap (λ (x : State). x .depth) (f .packed) in
+        let xs = packContexts (view s .saved) in
+        let e : length xs ≤ i = rw (contexts-length (view s .saved)) (omega arith) in
+        rw (ap (λ (x : State). getD (x .saved) i noSaved) (f .packed), pad-zero noSaved 16 xs i, getD-absent xs noSaved {i = i} (λ h. omega arith)) (omega arith)
 
 -- ---- a search through n numbers of a row, from its number k on
 

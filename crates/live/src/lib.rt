@@ -8,7 +8,9 @@ ghost use lib.ListN.{length};
 ghost use Rattle.runs.specs.Steps.{holds, holdsRef, hasLink, inPool, join, make, link};
 ghost use Rattle.state.specs.View.{frameView, linksView, linkView, view};
 ghost use Rattle.state.specs.Fine.{Fine, doneOf};
-ghost use Rattle.live.specs.Live.{labelOf, linkOf, labelNumber, linkNumber, stateOf, movedTo};
+ghost use Rattle.live.specs.Live.{labelOf, linkOf, labelNumber, linkNumber, savedNumber, stateOf, movedTo};
+
+pub mod structs;
 
 // How many links there are and labels in the running frame, how many contexts are saved, and the method that runs.
 pub struct Counts {
@@ -35,6 +37,14 @@ pub fn link_number(owner: u8, declared: u8, typ: u8, target: u8) -> u32
     ensures { λ x. ⌜ x ≡ linkNumber owner declared typ target ⌝ }
 {
     (owner as u32) * 16777216 + (declared as u32) * 65536 + (typ as u32) * 256 + (target as u32)
+}
+
+// a saved context of n labels
+pub fn saved_number(method: u8, pending: u8, n: usize) -> u32
+    requires { ⌜ n < 65536 ⌝ }
+    ensures { λ x. ⌜ x ≡ savedNumber method pending n ⌝ }
+{
+    (method as u32) * 16777216 + (pending as u32) * 65536 + (n as u32)
 }
 
 // Whether the frame at this depth, of n labels, has r at the label c. All are gone through, so that several are compared at once. (A lent

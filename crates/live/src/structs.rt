@@ -1,0 +1,130 @@
+// The run state's arrays of structs as rows of numbers, and back.
+ghost use mathlib.Core.Path.{_≡_};
+ghost use mathlib.Core.List.{map};
+ghost use Prim.Native.Nat.{ℕ, _<_};
+ghost use lib.ListN.{length, getD};
+ghost use Rattle.state.specs.View.{noSaved};
+ghost use Rattle.live.specs.Live.{labelOf, linkOf, savedOf};
+use state::Label;
+use state::Link;
+use state::Saved;
+
+fn label_to(l: Label) -> u16
+    ensures { λ x. ⌜ labelOf x ≡ l ⌝ }
+{
+    crate::label_number(l.r, l.c)
+}
+
+fn link_to(k: Link) -> u32
+    ensures { λ x. ⌜ linkOf x ≡ k ⌝ }
+{
+    crate::link_number(k.owner, k.declared, k.typ, k.target)
+}
+
+fn context_to(k: Saved) -> u32
+    requires { ⌜ k .n < 65536 ⌝ }
+    ensures { λ x. ⌜ savedOf x ≡ k ⌝ }
+{
+    crate::saved_number(k.method, k.pending, k.n)
+}
+
+pub fn labels_of(labels: [Label; 544]) -> [u16; 544]
+    ensures { λ r. ⌜ map labelOf r ≡ labels ⌝ }
+{
+    let mut r = [0u16; 544];
+    for i in 0..544 {
+        r[i] = label_to(labels[i]);
+    }
+    r
+}
+
+pub fn links_of(links: [Link; 256]) -> [u32; 256]
+    ensures { λ r. ⌜ map linkOf r ≡ links ⌝ }
+{
+    let mut r = [0u32; 256];
+    for i in 0..256 {
+        r[i] = link_to(links[i]);
+    }
+    r
+}
+
+// A frame has 32 labels at most, so that their count fits its place.
+pub fn saved_of(saved: [Saved; 16]) -> [u32; 16]
+    requires { ⌜ ((i : ℕ) → getD saved i noSaved .n < 65536) ⌝ }
+    ensures { λ r. ⌜ map savedOf r ≡ saved ⌝ }
+{
+    let mut r = [0u32; 16];
+    for i in 0..16 {
+        r[i] = context_to(saved[i]);
+    }
+    r
+}
+
+fn label_from(x: u16) -> Label
+    ensures { λ l. ⌜ l ≡ labelOf x ⌝ }
+{
+    Label {
+        r: (x / 256) as u8,
+        c: (x % 256) as u8,
+    }
+}
+
+fn link_from(x: u32) -> Link
+    ensures { λ k. ⌜ k ≡ linkOf x ⌝ }
+{
+    Link {
+        owner: (x / 16777216) as u8,
+        declared: (x / 65536 % 256) as u8,
+        typ: (x / 256 % 256) as u8,
+        target: (x % 256) as u8,
+    }
+}
+
+fn context_from(x: u32) -> Saved
+    ensures { λ k. ⌜ k ≡ savedOf x ⌝ }
+{
+    Saved {
+        method: (x / 16777216) as u8,
+        pending: (x / 65536 % 256) as u8,
+        n: (x % 65536) as usize,
+    }
+}
+
+pub fn labels_from(rows: &[u16; 544]) -> [Label; 544]
+    ensures { λ r. ⌜ (length (now (rows .entry)) ≡ 544 → r ≡ map labelOf (now (rows .entry))) ⌝ }
+{
+    let mut r = [Label { r: 0, c: 0 }; 544];
+    for i in 0..544 {
+        r[i] = label_from(rows[i]);
+    }
+    r
+}
+
+pub fn links_from(rows: &[u32; 256]) -> [Link; 256]
+    ensures { λ r. ⌜ (length (now (rows .entry)) ≡ 256 → r ≡ map linkOf (now (rows .entry))) ⌝ }
+{
+    let mut r = [Link {
+        owner: 0,
+        declared: 0,
+        typ: 0,
+        target: 0,
+    }; 256];
+    for i in 0..256 {
+        r[i] = link_from(rows[i]);
+    }
+    r
+}
+
+pub fn saved_from(rows: &[u32; 16]) -> [Saved; 16]
+    ensures { λ r. ⌜ (length (now (rows .entry)) ≡ 16 → r ≡ map savedOf (now (rows .entry))) ⌝ }
+{
+    let mut r = [Saved {
+        method: 0,
+        pending: 0,
+        n: 0,
+    }; 16];
+    for i in 0..16 {
+        r[i] = context_from(rows[i]);
+    }
+    r
+}

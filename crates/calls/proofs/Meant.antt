@@ -1,13 +1,11 @@
 -- A state by value that means a given state: what joins it joins what it means.
 -- Assumes nothing.
 use Prim.Native.Nat.{ℕ, _<_}
-use native.Mathlib.Omega.{arith}
-use mathlib.Core.Path.{_≡_, refl, sym, ap, _∙_}
+use mathlib.Core.Path.{_≡_, ap, _∙_}
 use mathlib.Core.Logic.{inr}
-use mathlib.Core.Bool.{Bool, true, false}
+use mathlib.Core.Bool.{true, false}
 use mathlib.Core.List.{List, [], _∷_}
 use lib.ListN.{length}
-use Rattle.meaning.specs.Reading.{Took, takes, need}
 use Rattle.runs.specs.Machine as M
 use Rattle.runs.specs.Machine.{Label, label, sameLabel, addAll, withLabel}
 use Rattle.runs.specs.Steps.{roomFor, join}
@@ -16,7 +14,7 @@ use Rattle.runs.proofs.Typing.{within-label}
 use Rattle.state.specs.declared.State.{State}
 use Rattle.state.specs.declared.Done.{Done}
 use Rattle.state.specs.View.{view, pack}
-use Rattle.state.specs.Fine.{Fine, done, doneOf}
+use Rattle.state.specs.Fine.{Fine, done, refused, doneOf}
 use Rattle.state.proofs.Packed.{tidy, view-pack, pack-tidy, within-fine}
 use Rattle.calls.specs.Frames.{joined}
 
@@ -44,27 +42,12 @@ module _ {x : State} {u : M.State} (m : Means x u) where
   unfolding joined addAll
   means-more y r c h e = record { within = within-label (inr h) (m .within); is = e ∙ means-joined (label r c ∷ []) }
 
-  -- a label joins, or has no room; a refusal leaves another state
-  module _ (s : State) (r c : ℕ) (d : Done) (e : d ≡ doneOf x (join (view x) r c)) where
-    abbrev tried : Bool → Took M.State
-    tried b = need b 63 (takes (withLabel (tidy u) r c))
+  -- a label joins where there is room
+  pub joins-on : (s : State) (r c : ℕ) (d : Done) → d ≡ doneOf x (join (view x) r c) → roomFor sameLabel 32 (label r c) (u .labels) ≡ true → d ≡ doneOf s (join u r c)
+  unfolding join
+  joins-on s r c d e q = e ∙ ap (λ (y : M.State). doneOf x (join y r c)) means-view ∙ rw q (ap done (pack-tidy (withLabel u r c)))
 
-    is-tried : d ≡ doneOf x (tried (roomFor sameLabel 32 (label r c) (u .labels)))
-    unfolding join
-    is-tried = e ∙ ap (λ (y : M.State). doneOf x (join y r c)) means-view
-
-    pub joins-on : d .code ≡ 0 → d ≡ doneOf s (join u r c)
-    unfolding join
-    joins-on z = is-tried ∙ on (roomFor sameLabel 32 (label r c) (u .labels)) (sym (ap (λ (y : Done). y .code) is-tried) ∙ z)
-      where
-        on : (b : Bool) → doneOf x (tried b) .code ≡ 0 → doneOf x (tried b) ≡ doneOf s (need b 63 (takes (withLabel u r c)))
-        on true q = ap done (pack-tidy (withLabel u r c))
-        on false q = absurd (let k : 63 ≡ 0 = q in omega arith)
-
-    pub joins-off : (d .code ≡ 0 → ⊥) → record { code = d .code; state = s } ≡ doneOf s (join u r c)
-    unfolding join
-    joins-off n = ap (λ (y : Done). record { code = y .code; state = s }) is-tried ∙ on (roomFor sameLabel 32 (label r c) (u .labels)) (λ q. n (ap (λ (y : Done). y .code) is-tried ∙ q))
-      where
-        on : (b : Bool) → (doneOf x (tried b) .code ≡ 0 → ⊥) → record { code = doneOf x (tried b) .code; state = s } ≡ doneOf s (need b 63 (takes (withLabel u r c)))
-        on true q = absurd (q refl)
-        on false q = refl
+-- and is refused where there is none
+pub joins-off : (s : State) (u : M.State) (r c : ℕ) → roomFor sameLabel 32 (label r c) (u .labels) ≡ false → refused s 63 ≡ doneOf s (join u r c)
+unfolding join
+joins-off s u r c q = rw q

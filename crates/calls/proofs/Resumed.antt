@@ -2,7 +2,7 @@
 -- Assumes nothing.
 use Prim.Native.Nat.{ℕ, suc, _-_, _<_}
 use native.Mathlib.Omega.{arith}
-use mathlib.Core.Path.{_≡_, refl, ap}
+use mathlib.Core.Path.{_≡_, refl, ap, _∙_}
 use mathlib.Core.Option.{none, some}
 use mathlib.Core.List.{List, _∷_}
 use lib.Dec.{eqb}
@@ -11,8 +11,9 @@ use borrow.Author.Tests.{ne-eqb}
 use Rattle.meaning.specs.Tables.{typeOrNone}
 use Rattle.meaning.specs.Reading.{Took, takes, refuses, need}
 use Rattle.runs.specs.Machine as M
-use Rattle.runs.specs.Machine.{Saved}
-use Rattle.runs.specs.Steps.{holds, returns, roomGiven, join, back}
+use Rattle.runs.specs.Machine.{label, sameLabel}
+use Rattle.runs.specs.Steps.{holds, returns, roomFor, roomGiven, join, back}
+use Rattle.state.specs.declared.Saved.{Saved}
 use Rattle.state.specs.declared.State.{State}
 use Rattle.state.specs.View.{noSaved, frameView, savedView, view, pack}
 use Rattle.state.specs.Fine.{Fine}
@@ -21,7 +22,7 @@ use Rattle.calls.specs.Frames.{left}
 use Rattle.calls.proofs.Stacked.{left-within}
 use Rattle.calls.proofs.Meant.{Means}
 
-module _ (t : M.State) (r : ℕ) {cs : List Saved} {k : Saved} {ks : List Saved} (e : cs ≡ k ∷ ks) where
+module _ (t : M.State) (r : ℕ) {cs : List M.Saved} {k : M.Saved} {ks : List M.Saved} (e : cs ≡ k ∷ ks) where
   void : k .pending ≡ none → back t r cs ≡ need (eqb r 0xFF) 62 (takes (left t cs))
   unfolding back returns roomGiven left
   void q = rw (e, q)
@@ -31,7 +32,7 @@ module _ (t : M.State) (r : ℕ) {cs : List Saved} {k : Saved} {ks : List Saved}
   typed c q = rw (e, q)
 
 -- the newest of the saved contexts
-pub saved-top : (s : State) → 0 < s .depth
+saved-top : (s : State) → 0 < s .depth
     → let top = getD (s .saved) (s .depth - 1) noSaved in
     view s .saved ≡ record { method = top .method; pending = typeOrNone (top .pending); labels = frameView (s .labels) (s .depth - 1) (top .n) } ∷ savedView (s .labels) (s .saved) (s .depth - 1)
 unfolding view savedView
@@ -48,15 +49,20 @@ module _ (s : State) (r : ℕ) where
   unfolding view savedView back
   back-none e = rw e
 
-  module _ (h : 0 < s .depth) where
-    abbrev pending : ℕ
-    pending = getD (s .saved) (s .depth - 1) noSaved .pending
+  module _ (h : 0 < s .depth) {k : Saved} (e : getD (s .saved) (s .depth - 1) noSaved ≡ k) where
+    top : view s .saved ≡ record { method = k .method; pending = typeOrNone (k .pending); labels = frameView (s .labels) (s .depth - 1) (k .n) } ∷ savedView (s .labels) (s .saved) (s .depth - 1)
+    top = saved-top s h ∙ ap (λ (x : Saved). record { method = x .method; pending = typeOrNone (x .pending); labels = frameView (s .labels) (s .depth - 1) (x .n) } ∷ savedView (s .labels) (s .saved) (s .depth - 1)) e
 
-    pub back-void : pending ≡ 0xFF → answered ≡ need (eqb r 0xFF) 62 (takes resuming)
-    back-void e = void (view s) r (saved-top s h) (ap typeOrNone e)
+    pub back-void : k .pending ≡ 0xFF → answered ≡ need (eqb r 0xFF) 62 (takes resuming)
+    back-void q = void (view s) r top (ap typeOrNone q)
 
-    pub back-typed : (pending ≡ 0xFF → ⊥) → answered ≡ need (holds (view s .labels) r pending) 62 (join resuming r pending)
-    back-typed n = typed (view s) r (saved-top s h) pending (rw (ne-eqb pending 0xFF n))
+    pub back-typed : (k .pending ≡ 0xFF → ⊥) → answered ≡ need (holds (view s .labels) r (k .pending)) 62 (join resuming r (k .pending))
+    back-typed n = typed (view s) r top (k .pending) (rw (ne-eqb (k .pending) 0xFF n))
+
+    -- the room that the frame below has
+    pub resumed-room : (c : ℕ) → roomFor sameLabel 32 (label r c) (resuming .labels) ≡ roomFor sameLabel 32 (label r c) (frameView (s .labels) (s .depth - 1) (k .n))
+    unfolding left
+    resumed-room c = ap (λ (cs : List M.Saved). roomFor sameLabel 32 (label r c) (left (view s) cs .labels)) top
 
 -- the state that pops up means the caller's
 pub resumed : {s t : State} → Fine s → t ≡ pack (left (view s) (view s .saved)) → Means t (left (view s) (view s .saved))

@@ -1,23 +1,23 @@
-// The steps 27 to 29 by value: one test for each premise, in the order 64, 61, 62, 63; a refused step answers with the state as it was.
+// The steps 27 to 29 on rows that are lent: one test for each premise, in the order 64, 61, 62, 63; a refused step writes nothing.
 ghost use mathlib.Core.Path.{_≡_};
-ghost use mathlib.Core.List.{[], _∷_};
-ghost use Prim.Native.Nat.{_+_, _*_, _≤_, _<_};
-ghost use lib.ListN.{getD};
+ghost use mathlib.Core.List.{List, [], _∷_, map};
+ghost use Prim.Native.Nat.{ℕ, _+_, _*_, _≤_, _<_};
+ghost use lib.ListN.{length, getD};
 ghost use Rattle.meaning.specs.Tables.{Package, typeOrNone};
 ghost use Rattle.meaning.specs.Text.{byte};
-ghost use Rattle.runs.specs.Machine.{label, withLabel, called, passed, invokestatic, invokemethod, return};
-ghost use Rattle.runs.specs.Steps.{holdsAll, call, step};
+ghost use Rattle.runs.specs.Machine.{label, sameLabel, withLabel, called, passed, invokestatic, invokemethod, return};
+ghost use Rattle.runs.specs.Steps.{holdsAll, roomFor, call, step};
 ghost use Rattle.steps.specs.View.{argumentsAt};
 ghost use Rattle.state.specs.View.{frameView, view, pack};
-ghost use Rattle.state.specs.Fine.{Fine, doneOf};
+ghost use Rattle.state.specs.Fine.{Fine};
+ghost use Rattle.live.specs.Live.{labelOf, savedOf, stateOf, movedTo};
 ghost use Rattle.permits.specs.Keys.{Exact};
 ghost use Rattle.moves.specs.Below.{Supers};
+ghost use Rattle.moves.specs.Answers.{Answers};
 ghost use Rattle.calls.specs.Called.{MethodAt, paramsIn, overridesBy, runsBy};
 ghost use Rattle.calls.specs.Frames.{joined, left, cleared};
-use state::Done;
-use state::Label;
-use state::Saved;
-use state::State;
+use live::Counts;
+use live::Moved;
 use steps::Step;
 use tables::Method;
 
@@ -29,7 +29,7 @@ fn wide(x: u8) -> usize
 
 // Whether a frame holds each argument at its parameter's type; the count byte stands at a place of the step's frame.
 fn holds_all(
-    labels: [Label; 544],
+    labels: &[u16; 544],
     depth: usize,
     n: usize,
     k: Step,
@@ -39,7 +39,7 @@ fn holds_all(
     requires { ⌜ 32 * depth + n ≤ 544 ⌝ }
     requires { ⌜ at ≤ 4 ⌝ }
     requires { ⌜ called .k ≤ 6 ⌝ }
-    ensures { λ x. ⌜ x ≡ holdsAll (frameView labels depth n) (argumentsAt (k .b) at) (paramsIn called) ⌝ }
+    ensures { λ x. ⌜ (32 * depth + n ≤ length (now (labels .entry)) → x ≡ holdsAll (frameView (map labelOf (now (labels .entry))) depth n) (argumentsAt (k .b) at) (paramsIn called)) ⌝ }
 {
     if k.b[at] != called.k {
         return false;
@@ -49,7 +49,7 @@ fn holds_all(
     while i < count {
         let r = k.b[at + 1 + i];
         let c = called.params[i];
-        if !state::has_label(labels, depth, n, r, c) {
+        if !live::has_label(labels, depth, n, r, c) {
             return false;
         }
         i += 1;
@@ -58,41 +58,41 @@ fn holds_all(
 }
 
 // r labelled c joins the running frame, where there is room for it.
-fn put(s: State, r: u8, c: u8) -> State
-    requires { ⌜ Fine s ⌝ }
-    requires { ⌜ s .n < 32 ⌝ }
-    ensures { λ t. ⌜ t ≡ pack (withLabel (view s) r c) ⌝ }
+fn put(labels: &mut [u16; 544], at: Counts, r: u8, c: u8) -> Counts
+    requires { ⌜ at .n < 32 ⌝ }
+    requires { ⌜ at .depth ≤ 16 ⌝ }
+    ensures { λ t. ⌜ ((ks os cs : List ℕ) → Fine (stateOf (now (labels .entry)) ks os cs at) → stateOf (now (labels .exit)) ks os cs t ≡ pack (withLabel (view (stateOf (now (labels .entry)) ks os cs at)) r c)) ⌝ }
 {
-    let d = state::add_label(s, r, c);
-    d.state
+    let m = live::add_label(labels, at, r, c);
+    m.now
 }
 
 // The argument r of number i joins the running frame at its parameter's type.
-fn pass_one(s: State, r: u8, called: Method, i: usize) -> State
-    requires { ⌜ Fine s ⌝ }
-    requires { ⌜ s .n < 32 ⌝ }
+fn pass_one(labels: &mut [u16; 544], at: Counts, r: u8, called: Method, i: usize) -> Counts
+    requires { ⌜ at .n < 32 ⌝ }
+    requires { ⌜ at .depth ≤ 16 ⌝ }
     requires { ⌜ i < 6 ⌝ }
-    ensures { λ t. ⌜ t ≡ pack (withLabel (view s) r (getD (called .params) i 0)) ⌝ }
+    ensures { λ t. ⌜ ((ks os cs : List ℕ) → Fine (stateOf (now (labels .entry)) ks os cs at) → stateOf (now (labels .exit)) ks os cs t ≡ pack (withLabel (view (stateOf (now (labels .entry)) ks os cs at)) r (getD (called .params) i 0))) ⌝ }
 {
     let c = called.params[i]; // and not the object's own class
-    put(s, r, c)
+    put(labels, at, r, c)
 }
 
 // The arguments join the running frame at the parameter types.
-fn pass(s: State, k: Step, at: usize, called: Method) -> State
-    requires { ⌜ Fine s ⌝ }
-    requires { ⌜ s .n ≤ 1 ⌝ }
+fn pass(labels: &mut [u16; 544], from: Counts, k: Step, at: usize, called: Method) -> Counts
+    requires { ⌜ ((ks : List ℕ) × ((os : List ℕ) × ((cs : List ℕ) × Fine (stateOf (now labels) ks os cs from)))) ⌝ }
+    requires { ⌜ from .n ≤ 1 ⌝ }
     requires { ⌜ at ≤ 4 ⌝ }
     requires { ⌜ called .k ≤ 6 ⌝ }
     requires { ⌜ byte (k .b) at ≡ called .k ⌝ }
-    ensures { λ t. ⌜ t ≡ pack (joined (view s) (passed (argumentsAt (k .b) at) (paramsIn called))) ⌝ }
+    ensures { λ t. ⌜ ((ks os cs : List ℕ) → Fine (stateOf (now (labels .entry)) ks os cs from) → stateOf (now (labels .exit)) ks os cs t ≡ pack (joined (view (stateOf (now (labels .entry)) ks os cs from)) (passed (argumentsAt (k .b) at) (paramsIn called)))) ⌝ }
 {
     let count = wide(called.k);
-    let mut t = s;
+    let mut t = from;
     let mut i = 0;
     while i < count {
         let r = k.b[at + 1 + i];
-        let u = pass_one(t, r, called, i);
+        let u = pass_one(labels, t, r, called, i);
         t = u;
         i += 1;
     }
@@ -100,74 +100,91 @@ fn pass(s: State, k: Step, at: usize, called: Method) -> State
 }
 
 // The running frame is saved, and the method runs over a frame without labels.
-fn push(s: State, pending: u8, method: u8) -> State
-    requires { ⌜ Fine s ⌝ }
-    requires { ⌜ s .depth < 16 ⌝ }
-    ensures { λ t. ⌜ t ≡ pack (called (view s) (typeOrNone pending) method []) ⌝ }
+fn push(saved: &mut [u32; 16], at: Counts, pending: u8, method: u8) -> Counts
+    requires { ⌜ at .n ≤ 32 ⌝ }
+    requires { ⌜ at .depth < 16 ⌝ }
+    ensures { λ t. ⌜ ((ls ks os : List ℕ) → Fine (stateOf ls ks os (now (saved .entry)) at) → stateOf ls ks os (now (saved .exit)) t ≡ pack (called (view (stateOf ls ks os (now (saved .entry)) at)) (typeOrNone pending) method [])) ⌝ }
 {
-    let d = s.depth;
-    let mut t = s;
-    t.saved[d] = Saved {
-        method: s.method,
-        pending: pending,
-        n: s.n,
-    };
-    t.depth = d + 1;
-    t.n = 0;
-    t.method = method;
-    t
+    let d = at.depth;
+    saved[d] = live::saved_number(at.method, pending, at.n);
+    Counts {
+        nlinks: at.nlinks,
+        n: 0,
+        depth: d + 1,
+        method: method,
+    }
 }
 
 // The method of this number is called with the arguments.
-fn call_static(s: State, k: Step, called: Method, number: u8) -> Done
-    requires { ⌜ Fine s ⌝ }
+fn call_static(
+    labels: &mut [u16; 544],
+    saved: &mut [u32; 16],
+    at: Counts,
+    k: Step,
+    called: Method,
+    number: u8,
+) -> Moved
+    requires { ⌜ ((ks : List ℕ) × ((os : List ℕ) × Fine (stateOf (now labels) ks os (now saved) at))) ⌝ }
     requires { ⌜ called .k ≤ 6 ⌝ }
     requires { ⌜ byte (k .b) 2 ≡ called .k ⌝ }
-    ensures { λ d. ⌜ d ≡ doneOf s (call (view s) (typeOrNone (called .result)) number (passed (argumentsAt (k .b) 2) (paramsIn called))) ⌝ }
+    ensures { λ m. ⌜ ((ks os : List ℕ) → Answers (λ t. call t (typeOrNone (called .result)) number (passed (argumentsAt (k .b) 2) (paramsIn called))) (stateOf (now (labels .entry)) ks os (now (saved .entry)) at) (movedTo m (now (labels .exit)) ks os (now (saved .exit)))) ⌝ }
 {
-    if 16 <= s.depth {
-        return Done { code: 63, state: s };
+    if 16 <= at.depth {
+        return Moved { code: 63, now: at };
     }
-    let t = push(s, called.result, number);
-    let u = pass(t, k, 2, called);
-    Done { code: 0, state: u }
+    let t = push(saved, at, called.result, number);
+    let u = pass(labels, t, k, 2, called);
+    Moved { code: 0, now: u }
 }
 
 // The method v of this row runs for the called one, with its receiver and the arguments.
-fn call_method(s: State, k: Step, called: Method, runs: Method, v: u8, r: u8) -> Done
-    requires { ⌜ Fine s ⌝ }
+fn call_method(
+    labels: &mut [u16; 544],
+    saved: &mut [u32; 16],
+    at: Counts,
+    k: Step,
+    called: Method,
+    runs: Method,
+    v: u8,
+    r: u8,
+) -> Moved
+    requires { ⌜ ((ks : List ℕ) × ((os : List ℕ) × Fine (stateOf (now labels) ks os (now saved) at))) ⌝ }
     requires { ⌜ called .k ≤ 6 ⌝ }
     requires { ⌜ byte (k .b) 4 ≡ called .k ⌝ }
-    ensures { λ d. ⌜ d ≡ doneOf s (call (view s) (typeOrNone (called .result)) v (label r (runs .class) ∷ passed (argumentsAt (k .b) 4) (paramsIn called))) ⌝ }
+    ensures { λ m. ⌜ ((ks os : List ℕ) → Answers (λ t. call t (typeOrNone (called .result)) v (label r (runs .class) ∷ passed (argumentsAt (k .b) 4) (paramsIn called))) (stateOf (now (labels .entry)) ks os (now (saved .entry)) at) (movedTo m (now (labels .exit)) ks os (now (saved .exit)))) ⌝ }
 {
-    if 16 <= s.depth {
-        return Done { code: 63, state: s };
+    if 16 <= at.depth {
+        return Moved { code: 63, now: at };
     }
-    let t = push(s, called.result, v);
-    let u = put(t, r, runs.class);
-    let w = pass(u, k, 4, called);
-    Done { code: 0, state: w }
+    let t = push(saved, at, called.result, v);
+    let u = put(labels, t, r, runs.class);
+    let w = pass(labels, u, k, 4, called);
+    Moved { code: 0, now: w }
 }
 
 // 27 nn k r..
-pub fn invokestatic(s: State, exact: &[u32], k: Step, called: Method) -> Done
-    requires { ⌜ Fine s ⌝ }
+pub fn invokestatic(
+    labels: &mut [u16; 544],
+    saved: &mut [u32; 16],
+    at: Counts,
+    exact: &[u32],
+    k: Step,
+    called: Method,
+) -> Moved
+    requires { ⌜ ((ks : List ℕ) × ((os : List ℕ) × Fine (stateOf (now labels) ks os (now saved) at))) ⌝ }
     requires { ⌜ ((P : Package) × (Exact P (now exact) × MethodAt P (byte (k .b) 1) called)) ⌝ }
-    ensures { λ d. ⌜ ((P : Package) → Exact P (now (exact .entry)) → MethodAt P (byte (k .b) 1) called → d ≡ doneOf s (step P (view s) (invokestatic (byte (k .b) 1) (argumentsAt (k .b) 2)))) ⌝ }
+    ensures { λ m. ⌜ ((P : Package) → Exact P (now (exact .entry)) → MethodAt P (byte (k .b) 1) called → (ks os : List ℕ) → Answers (λ t. step P t (invokestatic (byte (k .b) 1) (argumentsAt (k .b) 2))) (stateOf (now (labels .entry)) ks os (now (saved .entry)) at) (movedTo m (now (labels .exit)) ks os (now (saved .exit)))) ⌝ }
 {
     let number = k.b[1];
-    let labels = s.labels;
-    let depth = s.depth;
-    let n = s.n;
-    let held = holds_all(labels, depth, n, k, 2, called);
-    let allowed = permits::permitted(exact, s.method, 6, number);
+    let held = holds_all(labels, at.depth, at.n, k, 2, called);
+    let allowed = permits::permitted(exact, at.method, 6, number);
     if !allowed {
-        return Done { code: 61, state: s }; // whether or not the arguments are held
+        return Moved { code: 61, now: at }; // whether or not the arguments are held
     }
     if !held {
-        return Done { code: 62, state: s }; // an argument is not
+        return Moved { code: 62, now: at }; // an argument is not
     }
-    call_static(s, k, called, number)
+    call_static(labels, saved, at, k, called, number)
 }
 
 // Whether the row v overrides the row n of an instance method. A static method's slot is 0000, and so is that of a number without a method.
@@ -195,112 +212,114 @@ fn runs_for(rows: &[u64; 254], v: u8, n: u8, runs: Method, called: Method) -> bo
 
 // 28 nn vv r0 k r..
 pub fn invokemethod(
-    s: State,
+    labels: &mut [u16; 544],
+    pool: &[u8; 256],
+    saved: &mut [u32; 16],
+    at: Counts,
     exact: &[u32],
     rows: &[u64; 254],
     k: Step,
     called: Method,
     runs: Method,
-) -> Done
-    requires { ⌜ Fine s ⌝ }
+) -> Moved
+    requires { ⌜ ((ks : List ℕ) × Fine (stateOf (now labels) ks (now pool) (now saved) at)) ⌝ }
     requires { ⌜ ((P : Package) × (Exact P (now exact) × (Supers P (now rows) × (MethodAt P (byte (k .b) 1) called × MethodAt P (byte (k .b) 2) runs)))) ⌝ }
-    ensures { λ d. ⌜ ((P : Package) → Exact P (now (exact .entry)) → Supers P (now (rows .entry)) → MethodAt P (byte (k .b) 1) called → MethodAt P (byte (k .b) 2) runs → d ≡ doneOf s (step P (view s) (invokemethod (byte (k .b) 1) (byte (k .b) 2) (byte (k .b) 3) (argumentsAt (k .b) 4)))) ⌝ }
+    ensures { λ m. ⌜ ((P : Package) → Exact P (now (exact .entry)) → Supers P (now (rows .entry)) → MethodAt P (byte (k .b) 1) called → MethodAt P (byte (k .b) 2) runs → (ks : List ℕ) → Answers (λ t. step P t (invokemethod (byte (k .b) 1) (byte (k .b) 2) (byte (k .b) 3) (argumentsAt (k .b) 4))) (stateOf (now (labels .entry)) ks (now (pool .entry)) (now (saved .entry)) at) (movedTo m (now (labels .exit)) ks (now (pool .entry)) (now (saved .exit)))) ⌝ }
 {
     let number = k.b[1];
     let v = k.b[2];
     let r = k.b[3];
-    if !permits::permitted(exact, s.method, 7, number) {
-        return Done { code: 61, state: s };
+    if !permits::permitted(exact, at.method, 7, number) {
+        return Moved { code: 61, now: at };
     }
-    let labels = s.labels;
-    let depth = s.depth;
-    let n = s.n;
-    if !moves::has_below(rows, labels, depth, n, r, called.class) {
-        return Done { code: 62, state: s };
+    if !moves::has_below(rows, labels, at.depth, at.n, r, called.class) {
+        return Moved { code: 62, now: at };
     }
-    if !holds_all(labels, depth, n, k, 4, called) {
-        return Done { code: 62, state: s };
+    if !holds_all(labels, at.depth, at.n, k, 4, called) {
+        return Moved { code: 62, now: at };
     }
-    let pool = s.pool;
     if !moves::is_a(rows, pool, r, runs.class) {
-        return Done { code: 62, state: s };
+        return Moved { code: 62, now: at };
     }
     if !runs_for(rows, v, number, runs, called) {
-        return Done { code: 62, state: s };
+        return Moved { code: 62, now: at };
     }
-    call_method(s, k, called, runs, v, r)
+    call_method(labels, saved, at, k, called, runs, v, r)
 }
 
 // The labels of a frame are given up.
-fn clear(labels: [Label; 544], depth: usize, n: usize) -> [Label; 544]
+fn clear(labels: &mut [u16; 544], depth: usize, n: usize)
     requires { ⌜ 32 * depth + n ≤ 544 ⌝ }
-    ensures { λ x. ⌜ x ≡ cleared labels (32 * depth) n ⌝ }
+    ensures { λ _. ⌜ (32 * depth + n ≤ length (now (labels .entry)) → map labelOf (now (labels .exit)) ≡ cleared (map labelOf (now (labels .entry))) (32 * depth) n) ⌝ }
 {
     let base = 32 * depth;
-    let mut rest = labels;
-    let mut i = 0;
-    while i < n {
-        rest[base + i] = Label { r: 0, c: 0 };
-        i += 1;
+    for i in 0..n {
+        labels[base + i] = 0;
     }
-    rest
+}
+
+// The method of a saved context.
+fn saved_method(x: u32) -> u8
+    ensures { λ m. ⌜ m ≡ savedOf x .method ⌝ }
+{
+    (x / 16777216) as u8
 }
 
 // The running frame is given up for the newest of the saved ones.
-fn pop(s: State) -> State
-    requires { ⌜ Fine s ⌝ }
-    requires { ⌜ 0 < s .depth ⌝ }
-    ensures { λ t. ⌜ t ≡ pack (left (view s) (view s .saved)) ⌝ }
+fn pop(labels: &mut [u16; 544], saved: &mut [u32; 16], at: Counts) -> Counts
+    requires { ⌜ at .n ≤ 32 ⌝ }
+    requires { ⌜ at .depth ≤ 16 ⌝ }
+    requires { ⌜ 0 < at .depth ⌝ }
+    ensures { λ t. ⌜ ((ks os : List ℕ) → Fine (stateOf (now (labels .entry)) ks os (now (saved .entry)) at) → stateOf (now (labels .exit)) ks os (now (saved .exit)) t ≡ pack (left (view (stateOf (now (labels .entry)) ks os (now (saved .entry)) at)) (view (stateOf (now (labels .entry)) ks os (now (saved .entry)) at) .saved))) ⌝ }
 {
-    let depth = s.depth;
-    let n = s.n;
-    let labels = s.labels;
-    let rest = clear(labels, depth, n);
-    let d = depth - 1;
-    let top = s.saved[d];
-    let mut t = s;
-    t.labels = rest;
-    t.n = top.n;
-    t.saved[d] = Saved {
-        method: 0,
-        pending: 0,
-        n: 0,
-    };
-    t.depth = d;
-    t.method = top.method;
-    t
+    clear(labels, at.depth, at.n);
+    let d = at.depth - 1;
+    let top = saved[d];
+    saved[d] = 0;
+    Counts {
+        nlinks: at.nlinks,
+        n: (top % 65536) as usize,
+        depth: d,
+        method: saved_method(top),
+    }
+}
+
+// Whether a frame has room for r labelled c: it is there, or fewer than 32 labels are.
+fn has_room(labels: &[u16; 544], depth: usize, n: usize, r: u8, c: u8) -> bool
+    requires { ⌜ 32 * depth + n ≤ 544 ⌝ }
+    ensures { λ x. ⌜ (32 * depth + n ≤ length (now (labels .entry)) → x ≡ roomFor sameLabel 32 (label r c) (frameView (map labelOf (now (labels .entry))) depth n)) ⌝ }
+{
+    if n < 32 {
+        return true;
+    }
+    live::has_label(labels, depth, n, r, c)
 }
 
 // 29 rr
-pub fn back(s: State, r: u8) -> Done
-    requires { ⌜ Fine s ⌝ }
-    ensures { λ d. ⌜ ((P : Package) → d ≡ doneOf s (step P (view s) (return r))) ⌝ }
+pub fn back(labels: &mut [u16; 544], saved: &mut [u32; 16], at: Counts, r: u8) -> Moved
+    requires { ⌜ ((ks : List ℕ) × ((os : List ℕ) × Fine (stateOf (now labels) ks os (now saved) at))) ⌝ }
+    ensures { λ m. ⌜ ((P : Package) → (ks os : List ℕ) → Answers (λ t. step P t (return r)) (stateOf (now (labels .entry)) ks os (now (saved .entry)) at) (movedTo m (now (labels .exit)) ks os (now (saved .exit)))) ⌝ }
 {
-    let depth = s.depth;
-    if depth == 0 {
-        return Done { code: 64, state: s };
+    if at.depth == 0 {
+        return Moved { code: 64, now: at };
     }
-    let top = s.saved[depth - 1];
-    if top.pending == 255 {
+    let d = at.depth - 1;
+    let top = saved[d];
+    let pending = (top / 65536 % 256) as u8;
+    if pending == 255 {
         if r != 255 {
-            return Done { code: 62, state: s };
+            return Moved { code: 62, now: at };
         }
-        let t = pop(s);
-        return Done { code: 0, state: t };
+        let t = pop(labels, saved, at);
+        return Moved { code: 0, now: t };
     }
-    let labels = s.labels;
-    let n = s.n;
-    if !state::has_label(labels, depth, n, r, top.pending) {
-        return Done { code: 62, state: s };
+    if !live::has_label(labels, at.depth, at.n, r, pending) {
+        return Moved { code: 62, now: at };
     }
-    let t = pop(s);
-    let d = state::add_label(t, r, top.pending);
-    let code = d.code;
-    if code != 0 {
-        return Done {
-            code: code,
-            state: s,
-        };
+    let n = (top % 65536) as usize;
+    if !has_room(labels, d, n, r, pending) {
+        return Moved { code: 63, now: at }; // before anything is written
     }
-    d
+    let t = pop(labels, saved, at);
+    live::add_label(labels, t, r, pending)
 }

@@ -7,34 +7,37 @@ use Rattle.calls.proofs.call_method.Statement.{statement}
 use Rattle.calls.proofs.call_method.Tie as tie
 
 returns : tie.Need-returns
-returns c = call-full (c .before .before .pre .0) _ _ _ (c .if1 .taken)
+returns c = λ ks os f. call-full f _ _ _ (c .if1 .taken)
 
 push-requires : tie.Need-push-requires
-push-requires c κs = search needs
+push-requires c κs = let f = c .before .before .before .pre .0 .1 .1 in (f .labels, c .before .if1 .left)
 
 put-requires : tie.Need-put-requires
 put-requires c κs =
-    let a = c .before .before .before .args in
-    let f = c .before .before .before .pre .0 in
-    let h = c .before .if1 .left in
-    let m = entered-means f (a .called .result) (a .v) h _ (c .push .ensures) in
-    (means-fine m, omega (arith, entered-few f (a .called .result) (a .v) h m))
+    let a = c .before .before .before .before .before .args in
+    let w = c .before .before .before .before .before .pre .0 in
+    let f = w .1 .1 in
+    let h = c .before .before .before .if1 .left in
+    let m = entered-means f (a .called .result) (a .v) h _ (c .before .push .ensures (a .labels .now) (w .0) (w .1 .0) f) in
+    (omega (arith, entered-few f (a .called .result) (a .v) h m), means-fine m .depth)
 
 pass-requires : tie.Need-pass-requires
 pass-requires c κs =
-    let a = c .before .before .before .before .args in
-    let f = c .before .before .before .before .pre .0 in
-    let h = c .before .before .if1 .left in
-    let m = received f (a .called .result) (a .v) h (entered-means f (a .called .result) (a .v) h _ (c .before .push .ensures)) _ _ _ (c .put .ensures) in
-    (means-fine m, (omega (arith, received-few f (a .called .result) (a .v) h _ _ m), (search needs, (c .before .before .before .before .pre .1 .0, c .before .before .before .before .pre .1 .1))))
+    let a = c .before .before .before .before .before .before .before .args in
+    let w = c .before .before .before .before .before .before .before .pre .0 in
+    let f = w .1 .1 in
+    let h = c .before .before .before .before .before .if1 .left in
+    let e = entered-means f (a .called .result) (a .v) h _ (c .before .before .before .push .ensures (a .labels .now) (w .0) (w .1 .0) f) in
+    let m = received f (a .called .result) (a .v) h e _ (a .r) (a .runs .class) (c .before .put .ensures (w .0) (w .1 .0) (c .before .before .before .push .last .0) (means-fine e)) in
+    ((w .0, (w .1 .0, (c .before .before .before .push .last .0, means-fine m))), (omega (arith, received-few f (a .called .result) (a .v) h (a .r) (a .runs .class) m), (search needs, (c .before .before .before .before .before .before .before .pre .1 .0, c .before .before .before .before .before .before .before .pre .1 .1))))
 
 returns-2 : tie.Need-returns-2
-returns-2 c =
-    let a = c .before .before .before .before .before .args in
-    let f = c .before .before .before .before .before .pre .0 in
-    let h = c .before .before .before .if1 .left in
-    let m = received f (a .called .result) (a .v) h (entered-means f (a .called .result) (a .v) h _ (c .before .before .push .ensures)) _ _ _ (c .before .put .ensures) in
-    call-received f (a .called .result) (a .v) h _ _ _ _ _ m (c .pass .ensures)
+returns-2 c = λ ks os f.
+    let a = c .before .before .before .before .before .before .before .before .args in
+    let h = c .before .before .before .before .before .before .if1 .left in
+    let e = entered-means f (a .called .result) (a .v) h _ (c .before .before .before .before .push .ensures (a .labels .now) ks os f) in
+    let m = received f (a .called .result) (a .v) h e _ (a .r) (a .runs .class) (c .before .before .put .ensures ks os (c .before .before .before .before .push .last .0) (means-fine e)) in
+    call-received f (a .called .result) (a .v) h _ _ _ _ _ m (c .pass .ensures ks os (c .before .before .before .before .push .last .0) (means-fine m))
 
 pub call-method-spec : {M : Type 1} → statement M
 call-method-spec = tie.close (tie.spec returns push-requires put-requires pass-requires returns-2)

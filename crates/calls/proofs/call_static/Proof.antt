@@ -7,26 +7,26 @@ use Rattle.calls.proofs.call_static.Statement.{statement}
 use Rattle.calls.proofs.call_static.Tie as tie
 
 returns : tie.Need-returns
-returns c = call-full (c .before .before .pre .0) _ _ _ (c .if1 .taken)
+returns c = λ ks os f. call-full f _ _ _ (c .if1 .taken)
 
 push-requires : tie.Need-push-requires
-push-requires c κs = search needs
+push-requires c κs = let f = c .before .before .before .pre .0 .1 .1 in (f .labels, c .before .if1 .left)
 
 pass-requires : tie.Need-pass-requires
 pass-requires c κs =
-    let a = c .before .before .before .args in
-    let f = c .before .before .before .pre .0 in
-    let h = c .before .if1 .left in
-    let m = entered-means f (a .called .result) (a .number) h _ (c .push .ensures) in
-    (means-fine m, (omega (arith, entered-few f (a .called .result) (a .number) h m), (search needs, (c .before .before .before .pre .1 .0, c .before .before .before .pre .1 .1))))
+    let a = c .before .before .before .before .before .args in
+    let w = c .before .before .before .before .before .pre .0 in
+    let f = w .1 .1 in
+    let h = c .before .before .before .if1 .left in
+    let m = entered-means f (a .called .result) (a .number) h _ (c .before .push .ensures (a .labels .now) (w .0) (w .1 .0) f) in
+    ((w .0, (w .1 .0, (c .before .push .last .0, means-fine m))), (omega (arith, entered-few f (a .called .result) (a .number) h m), (search needs, (c .before .before .before .before .before .pre .1 .0, c .before .before .before .before .before .pre .1 .1))))
 
 returns-2 : tie.Need-returns-2
-returns-2 c =
-    let a = c .before .before .before .before .args in
-    let f = c .before .before .before .before .pre .0 in
-    let h = c .before .before .if1 .left in
-    let m = entered-means f (a .called .result) (a .number) h _ (c .before .push .ensures) in
-    call-entered f (a .called .result) (a .number) h _ _ _ m (c .pass .ensures)
+returns-2 c = λ ks os f.
+    let a = c .before .before .before .before .before .before .args in
+    let h = c .before .before .before .before .if1 .left in
+    let m = entered-means f (a .called .result) (a .number) h _ (c .before .before .push .ensures (a .labels .now) ks os f) in
+    call-entered f (a .called .result) (a .number) h _ _ _ m (c .pass .ensures ks os (c .before .before .push .last .0) (means-fine m))
 
 pub call-static-spec : {M : Type 1} → statement M
 call-static-spec = tie.close (tie.spec returns push-requires pass-requires returns-2)

@@ -1,42 +1,39 @@
 -- `calls::clear` meets its contract. The loop's invariant: the first i labels of the frame are zero, the others as they were.
 -- Assumes nothing.
 use Prim.Native.Nat.{ℕ, _+_, _*_, _-_, _≤_}
-use native.Mathlib.Omega.{arith}
 use native.Mathlib.Nat.{le-antisymm}
 use mathlib.Core.Path.{_≡_, ap, _∙_}
-use lib.ListN.{length, replicate}
+use mathlib.Core.List.{map}
+use lib.ListN.{length, replicate, length-map}
 use lib.Seq.{paste, paste-zero}
-use Rattle.tables.proofs.Access.{long}
 use Rattle.state.specs.View.{noLabel}
+use Rattle.live.specs.Live.{labelOf}
+use Rattle.live.proofs.Rows.{map-set}
 use Rattle.calls.proofs.Padded.{cleared-more}
 use borrow.Author.Needs.{needs}
 use Rattle.calls.proofs.clear.Statement.{statement}
 use Rattle.calls.proofs.clear.Tie as tie
 
 abbrev Inv-loop : tie.InvT-loop
-Inv-loop depth n base rest₀ i₀ rest i = (i ≤ n) × (rest ≡ paste rest₀ base (replicate n noLabel) i)
+Inv-loop labels₀ depth n base i₀ labels i = (i ≤ n) × ((32 * depth + n ≤ length labels₀) → map labelOf labels ≡ paste (map labelOf labels₀) base (replicate n noLabel) i)
 
 abbrev μ-loop : tie.MeasureT-loop
-μ-loop depth n base rest₀ i₀ rest i = n - i
-
--- the frame lies within the array
-fits : (c : tie.Start Inv-loop μ-loop) → 32 * c .args .depth + c .args .n ≤ length (c .args .labels)
-fits c = let h : length (c .args .labels) ≡ 544 = search (needs, long) in omega (arith, c .pre)
+μ-loop labels₀ depth n base i₀ labels i = n - i
 
 mul-base : tie.Need-mul-base Inv-loop μ-loop
 mul-base c = search needs
 
 loop-holds : tie.Need-loop-holds Inv-loop μ-loop
-loop-holds c = let a = c .args in (search needs, paste-zero (a .labels) (32 * a .depth) (replicate (a .n) noLabel))
+loop-holds c = let a = c .args in (search needs, λ h. paste-zero (map labelOf (a .labels .now)) (32 * a .depth) (replicate (a .n) noLabel))
 
-add-rest : tie.Need-add-rest Inv-loop μ-loop
-add-rest c = search needs
+add-labels : tie.Need-add-labels Inv-loop μ-loop
+add-labels c = search needs
 
-mul-rest : tie.Need-mul-rest Inv-loop μ-loop
-mul-rest c = search needs
+mul-labels : tie.Need-mul-labels Inv-loop μ-loop
+mul-labels c = search needs
 
-array-set-from-rest : tie.Need-array-set-from-rest Inv-loop μ-loop
-array-set-from-rest c = search needs
+element-write-labels : tie.Need-element-write-labels Inv-loop μ-loop
+element-write-labels c = search needs
 
 add-i : tie.Need-add-i Inv-loop μ-loop
 add-i c = search needs
@@ -48,10 +45,10 @@ loop-again : tie.Need-loop-again Inv-loop μ-loop
 loop-again c =
     let s = c .before in
     let a = c .before .before .args in
-    (search needs, cleared-more noLabel (a .labels) (32 * a .depth) (a .n) (s .loop .i) _ (fits (c .before .before)) (search needs) (s .loop .inv .1))
+    (search needs, λ h. map-set labelOf (s .loop .labels) (32 * a .depth + s .loop .i) 0 ∙ cleared-more noLabel (map labelOf (a .labels .now)) (32 * a .depth) (a .n) (s .loop .i) _ (rw (length-map (a .labels .now) labelOf) h) (c .loop-test .taken) (s .loop .inv .1 h))
 
 returns : tie.Need-returns Inv-loop μ-loop
-returns c = let s = c .before in s .loop .inv .1 ∙ ap (λ (j : ℕ). paste (s .before .args .labels) (32 * s .before .args .depth) (replicate (s .before .args .n) noLabel) j) (le-antisymm (s .loop .inv .0) (c .loop-test .left))
+returns c = λ h. let s = c .before in let a = c .before .before .args in s .loop .inv .1 h ∙ ap (λ (j : ℕ). paste (map labelOf (a .labels .now)) (32 * a .depth) (replicate (a .n) noLabel) j) (le-antisymm (s .loop .inv .0) (c .loop-test .left))
 
 pub clear-spec : {M : Type 1} → statement M
 clear-spec =
@@ -61,9 +58,9 @@ clear-spec =
     μ-loop
     mul-base
     loop-holds
-    add-rest
-    mul-rest
-    array-set-from-rest
+    add-labels
+    mul-labels
+    element-write-labels
     add-i
     loop-less
     loop-again

@@ -1,5 +1,8 @@
 -- `calls::pop` meets its contract: the frame's labels and its context are cleared. Assumes nothing.
+use mathlib.Core.Path.{_∙_}
+use Rattle.live.proofs.Rows.{labels-long}
 use Rattle.calls.proofs.Stacked.{popped}
+use Rattle.calls.proofs.Stored.{frame-cleared}
 use borrow.Author.Needs.{needs}
 use Rattle.calls.proofs.pop.Statement.{statement}
 use Rattle.calls.proofs.pop.Tie as tie
@@ -16,16 +19,31 @@ mul-top c = search needs
 element-copy-out-top : tie.Need-element-copy-out-top
 element-copy-out-top c = search needs
 
-mul-t10 : tie.Need-mul-t10
-mul-t10 c = search needs
+mul-saved : tie.Need-mul-saved
+mul-saved c = search needs
 
-element-set-from-t : tie.Need-element-set-from-t
-element-set-from-t c = search needs
+element-write-saved : tie.Need-element-write-saved
+element-write-saved c = search needs
+
+cast-t8 : tie.Need-cast-t8
+cast-t8 c = search needs
+
+saved-method-requires : tie.Need-saved-method-requires
+saved-method-requires c κs = search needs
 
 returns : tie.Need-returns
-returns c = rw (c .before .clear .ensures) (popped (c .before .before .before .pre .0) (c .before .before .before .pre .1))
+returns c = λ ks os f. let a = c .before .before .before .before .before .args in frame-cleared (a .labels .now) ks os (a .saved .now) (a .at) (c .before .before .before .clear .last .0) _ (c .before .before .before .clear .ensures (labels-long (a .labels .now) ks os (a .saved .now) (a .at) f)) (c .saved-method .ensures) ∙ popped f (c .before .before .before .before .before .pre .1 .1)
 
 pub pop-spec : {M : Type 1} → statement M
 pop-spec =
     tie.close
-    (tie.spec clear-requires sub-d mul-top element-copy-out-top mul-t10 element-set-from-t returns)
+    (tie.spec
+    clear-requires
+    sub-d
+    mul-top
+    element-copy-out-top
+    mul-saved
+    element-write-saved
+    cast-t8
+    saved-method-requires
+    returns)

@@ -28,8 +28,8 @@ pass-requires c κs =
     let f = w .1 .1 in
     let h = c .before .before .before .before .before .if1 .left in
     let e = entered-means f (a .called .result) (a .v) h _ (c .before .before .before .push .ensures (a .labels .now) (w .0) (w .1 .0) f) in
-    let m = received f (a .called .result) (a .v) h e _ (a .r) (a .runs .class) (c .before .put .ensures (w .0) (w .1 .0) (c .before .before .before .push .last .0) (means-fine e)) in
-    ((w .0, (w .1 .0, (c .before .before .before .push .last .0, means-fine m))), (omega (arith, received-few f (a .called .result) (a .v) h (a .r) (a .runs .class) m), (search needs, (c .before .before .before .before .before .before .before .pre .1 .0, c .before .before .before .before .before .before .before .pre .1 .1))))
+    let m = received f (a .called .result) (a .v) h e _ _ _ (c .before .put .ensures (w .0) (w .1 .0) (c .before .before .before .push .last .0) (means-fine e)) in
+    ((w .0, (w .1 .0, (c .before .before .before .push .last .0, means-fine m))), (omega (arith, received-few f (a .called .result) (a .v) h _ _ m), (search needs, (c .before .before .before .before .before .before .before .pre .1 .0, c .before .before .before .before .before .before .before .pre .1 .1))))
 
 returns-2 : tie.Need-returns-2
 returns-2 c = λ ks os f.

@@ -36,7 +36,7 @@ pub fn moved(c: Cursor, at: usize) -> Cursor
 
 // The next line, where none is refused yet, it keeps the line rule, and its kind is of this section. It is read by the values of the digits; and of
 // a section that has the number of a kind, which most of its lines are of. Its frame's first bytes go where the caller lends room for them.
-pub fn line_into(digits: &[u16; 512], s: &[u8], c: Cursor, section: u8, b: &mut [u8; 16]) -> Line
+pub fn line_into(digits: &[u32; 512], s: &[u8], c: Cursor, section: u8, b: &mut [u8; 16]) -> Line
     requires { ⌜ now digits ≡ digitTable ⌝ }
     requires { ⌜ rowOf section .section ≡ section ⌝ }
     ensures { λ r. ⌜ r ≡ lineIn (lineOf (now (s .entry)) c section) ⌝ }
@@ -63,7 +63,7 @@ pub fn line_into(digits: &[u16; 512], s: &[u8], c: Cursor, section: u8, b: &mut 
 }
 
 // The same as one value.
-pub fn line_by(digits: &[u16; 512], s: &[u8], c: Cursor, section: u8) -> Cut
+pub fn line_by(digits: &[u32; 512], s: &[u8], c: Cursor, section: u8) -> Cut
     requires { ⌜ now digits ≡ digitTable ⌝ }
     requires { ⌜ rowOf section .section ≡ section ⌝ }
     ensures { λ r. ⌜ r ≡ lineOf (now (s .entry)) c section ⌝ }
@@ -78,7 +78,7 @@ pub fn line_by(digits: &[u16; 512], s: &[u8], c: Cursor, section: u8) -> Cut
 }
 
 // What stands behind the last line: nothing, or a line that is refused.
-fn behind(digits: &[u16; 512], s: &[u8], at: usize, base: u8) -> u8
+fn behind(digits: &[u32; 512], s: &[u8], at: usize, base: u8) -> u8
     requires { ⌜ now digits ≡ digitTable ⌝ }
     requires { ⌜ base ≤ 50 ⌝ }
     ensures { λ r. ⌜ r ≡ behindEnd base (now (s .entry)) at ⌝ }
@@ -95,7 +95,7 @@ fn behind(digits: &[u16; 512], s: &[u8], at: usize, base: u8) -> u8
 }
 
 // The last line, of this kind, behind which nothing may stand. The numbers of its refusals are a package's, and `base` more in a run text.
-pub fn last_line(digits: &[u16; 512], s: &[u8], c: Cursor, kind: u8, base: u8) -> Cursor
+pub fn last_line(digits: &[u32; 512], s: &[u8], c: Cursor, kind: u8, base: u8) -> Cursor
     requires { ⌜ now digits ≡ digitTable ⌝ }
     requires { ⌜ Within (now s) c ⌝ }
     requires { ⌜ base ≤ 50 ⌝ }

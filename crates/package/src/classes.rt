@@ -12,7 +12,7 @@ pub struct ClassesRead {
     pub classes: Classes,
 }
 
-pub(crate) fn read_classes(digits: &[u16; 512], s: &[u8], from: Cursor, nd: usize) -> ClassesRead
+pub(crate) fn read_classes(digits: &[u32; 512], s: &[u8], from: Cursor, nd: usize) -> ClassesRead
     requires { ⌜ Within (now s) from ⌝ }
     requires { ⌜ now digits ≡ digitTable ⌝ }
     ensures { λ r. ⌜ Section packClasses withClasses (HasDomains nd) 3 (now (s .entry)) from (r .next) (r .classes) ⌝ }

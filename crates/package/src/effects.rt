@@ -16,7 +16,7 @@ pub struct EffectsRead {
 }
 
 pub(crate) fn read_effects(
-    digits: &[u16; 512],
+    digits: &[u32; 512],
     s: &[u8],
     from: Cursor,
     nc: usize,

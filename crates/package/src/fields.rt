@@ -12,7 +12,7 @@ pub struct FieldsRead {
     pub fields: Fields,
 }
 
-pub(crate) fn read_fields(digits: &[u16; 512], s: &[u8], from: Cursor, nc: usize) -> FieldsRead
+pub(crate) fn read_fields(digits: &[u32; 512], s: &[u8], from: Cursor, nc: usize) -> FieldsRead
     requires { ⌜ Within (now s) from ⌝ }
     requires { ⌜ now digits ≡ digitTable ⌝ }
     ensures { λ r. ⌜ Section packFields withFields (HasClasses nc) 4 (now (s .entry)) from (r .next) (r .fields) ⌝ }

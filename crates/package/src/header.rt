@@ -20,7 +20,7 @@ fn no_header(no: u8) -> Header
     }
 }
 
-pub(crate) fn read_header(digits: &[u16; 512], s: &[u8]) -> Header
+pub(crate) fn read_header(digits: &[u32; 512], s: &[u8]) -> Header
     requires { ⌜ now digits ≡ digitTable ⌝ }
     ensures { λ r. ⌜ HeaderRead (now (s .entry)) r ⌝ }
 {

@@ -13,7 +13,7 @@ pub struct MethodsRead {
 }
 
 pub(crate) fn read_methods(
-    digits: &[u16; 512],
+    digits: &[u32; 512],
     s: &[u8],
     from: Cursor,
     nd: usize,

@@ -12,7 +12,7 @@ pub struct PairsRead {
     pub pairs: Pairs,
 }
 
-pub(crate) fn read_pairs(digits: &[u16; 512], s: &[u8], from: Cursor, nd: usize) -> PairsRead
+pub(crate) fn read_pairs(digits: &[u32; 512], s: &[u8], from: Cursor, nd: usize) -> PairsRead
     requires { ⌜ Within (now s) from ⌝ }
     requires { ⌜ now digits ≡ digitTable ⌝ }
     ensures { λ r. ⌜ Section packPairs withPairs (HasDomains nd) 2 (now (s .entry)) from (r .next) (r .pairs) ⌝ }

@@ -19,7 +19,7 @@ fn no_entry(no: u8) -> Entry
 }
 
 // With nm methods.
-pub(crate) fn read_entry(digits: &[u16; 512], s: &[u8], nm: usize) -> Entry
+pub(crate) fn read_entry(digits: &[u32; 512], s: &[u8], nm: usize) -> Entry
     requires { ⌜ now digits ≡ digitTable ⌝ }
     ensures { λ r. ⌜ EntryRead nm (now (s .entry)) r ⌝ }
 {

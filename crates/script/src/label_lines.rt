@@ -52,7 +52,7 @@ fn one_label(x: LabelLines, l: Label) -> LabelLines
 
 // With nc classes, the classes of the objects, and the rows of the supertypes.
 pub(crate) fn read_labels(
-    digits: &[u16; 512],
+    digits: &[u32; 512],
     s: &[u8],
     from: Cursor,
     nc: usize,

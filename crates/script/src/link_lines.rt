@@ -59,7 +59,7 @@ fn one_link(x: LinkLines, k: Link) -> LinkLines
 
 // With nc classes, the fields, the classes of the objects, and the rows of the supertypes.
 pub(crate) fn read_static_links(
-    digits: &[u16; 512],
+    digits: &[u32; 512],
     s: &[u8],
     from: Cursor,
     links: LinkLines,
@@ -95,7 +95,7 @@ pub(crate) fn read_static_links(
 }
 
 pub(crate) fn read_object_links(
-    digits: &[u16; 512],
+    digits: &[u32; 512],
     s: &[u8],
     from: Cursor,
     links: LinkLines,

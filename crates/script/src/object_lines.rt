@@ -22,7 +22,7 @@ fn no_objects() -> [u8; 256]
 }
 
 // With nc classes.
-pub(crate) fn read_objects(digits: &[u16; 512], s: &[u8], from: Cursor, nc: usize) -> ObjectsRead
+pub(crate) fn read_objects(digits: &[u32; 512], s: &[u8], from: Cursor, nc: usize) -> ObjectsRead
     requires { ⌜ Within (now s) from ⌝ }
     requires { ⌜ now digits ≡ digitTable ⌝ }
     requires { ⌜ nc ≤ 127 ⌝ }

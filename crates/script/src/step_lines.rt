@@ -51,7 +51,7 @@ fn named(nc: usize, nf: usize, nm: usize, field: Field, called: Method, runs: Me
 
 // With nc classes, the fields and the methods.
 pub(crate) fn read_steps(
-    digits: &[u16; 512],
+    digits: &[u32; 512],
     s: &[u8],
     from: Cursor,
     nc: usize,

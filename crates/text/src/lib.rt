@@ -100,20 +100,20 @@ pub fn fits(f: Frame) -> bool
 }
 
 // What each character counts as the high digit of a byte, and behind them as the low one: 256 where it is no digit. It is made once for a text.
-pub fn digits() -> [u16; 512]
+pub fn digits() -> [u32; 512]
     ensures { λ r. ⌜ r ≡ digitTable ⌝ }
 {
-    let mut values = [256u16; 512];
+    let mut values = [256u32; 512];
     for v in 0..16 {
         let c = wide(hex_digit(v));
-        values[c] = (v as u16) * 16;
-        values[256 + c] = v as u16;
+        values[c] = (v as u32) * 16;
+        values[256 + c] = v as u32;
     }
     values
 }
 
 // What the two characters at a place count together: the byte that they spell, and more than 255 where they are no two digits.
-fn byte_at(digits: &[u16; 512], s: &[u8], i: usize) -> u16
+fn byte_at(digits: &[u32; 512], s: &[u8], i: usize) -> u32
     requires { ⌜ now digits ≡ digitTable ⌝ }
     requires { ⌜ i ≤ length (now s) ⌝ }
     ensures { λ r. ⌜ r ≡ byteAt (now (s .entry)) i ⌝ }
@@ -159,7 +159,7 @@ fn closed(s: &[u8], at: usize, i: usize, n: usize, b: &mut [u8; 16]) -> Line
 }
 
 // The line that begins at a place, by the values of the digits; its frame's first bytes go where the caller lends room for them.
-pub fn scan_into(digits: &[u16; 512], s: &[u8], at: usize, b: &mut [u8; 16]) -> Line
+pub fn scan_into(digits: &[u32; 512], s: &[u8], at: usize, b: &mut [u8; 16]) -> Line
     requires { ⌜ now digits ≡ digitTable ⌝ }
     ensures { λ r. ⌜ r ≡ lineIn (cutAt (now (s .entry)) at) ⌝ }
     ensures { λ _. ⌜ now (b .exit) ≡ cutAt (now (s .entry)) at .frame .b ⌝ }
@@ -184,7 +184,7 @@ pub fn scan_into(digits: &[u16; 512], s: &[u8], at: usize, b: &mut [u8; 16]) -> 
 }
 
 // The same as one value.
-pub fn scan_by(digits: &[u16; 512], s: &[u8], at: usize) -> Cut
+pub fn scan_by(digits: &[u32; 512], s: &[u8], at: usize) -> Cut
     requires { ⌜ now digits ≡ digitTable ⌝ }
     ensures { λ r. ⌜ r ≡ cutAt (now (s .entry)) at ⌝ }
 {

@@ -3,13 +3,13 @@
 use Prim.Native.Nat.{ℕ, _+_, _*_, _/_, _%_, _≤_, _<_}
 use native.Mathlib.Omega.{arith}
 use native.Mathlib.Decide.{ℕ-discrete}
-use mathlib.Core.Path.{_≡_, sym, ap, _∙_}
+use mathlib.Core.Path.{_≡_, sym, _∙_}
 use mathlib.Core.List.{List, map}
 use lib.ListN.{length, getD, set, length-map, List·getD-map}
 use lib.Seq.{ext-getD, getD-set-same, getD-set-other}
-use Rattle.state.specs.declared.Link.{Link}
-use Rattle.state.specs.declared.Saved.{Saved}
-use Rattle.live.specs.Live.{linkOf, savedOf, linkNumber, savedNumber}
+use Rattle.state.specs.declared.State.{State}
+use Rattle.live.specs.declared.Counts.{Counts}
+use Rattle.live.specs.Live.{labelOf, linkOf, savedOf, linkNumber, savedNumber, stateOf, countsOf}
 
 -- ---- a number has the parts that it is made of
 
@@ -56,3 +56,7 @@ module _ {A : Type 0} (of : ℕ → A) where
 
     pub copied-all : length row ≤ i → length row ≡ length structs → map of row ≡ structs
     copied-all h e = ext-getD (of 0) (map of row) structs (length-map row of ∙ e) (λ j k. List·getD-map of row j 0 ∙ c .means j (let q = length-map row of in omega arith))
+
+-- rows that mean a state's arrays mean that state
+pub rows-of : (s : State) (ls ks cs : List ℕ) (at : Counts) → map labelOf ls ≡ s .labels → map linkOf ks ≡ s .links → map savedOf cs ≡ s .saved → at ≡ countsOf s → stateOf ls ks (s .pool) cs at ≡ s
+rows-of s ls ks cs at e f g h i = record { pool = s .pool; links = f i; nlinks = h i .nlinks; labels = e i; n = h i .n; saved = g i; depth = h i .depth; method = h i .method }

@@ -47,6 +47,9 @@ stateOf labels links pool saved at =
       method = at .method;
     }
 
+abbrev pub countsOf : State → Counts
+countsOf s = record { nlinks = s .nlinks; n = s .n; depth = s .depth; method = s .method }
+
 -- an answer, with the rows behind it
 abbrev pub movedTo : Moved → List ℕ → List ℕ → List ℕ → List ℕ → Done
 movedTo m labels links pool saved = record { code = m .code; state = stateOf labels links pool saved (m .now) }

@@ -1,13 +1,15 @@
 // The run state's arrays of structs as rows of numbers, and back.
 ghost use mathlib.Core.Path.{_≡_};
 ghost use mathlib.Core.List.{map};
-ghost use Prim.Native.Nat.{ℕ, _<_};
-ghost use lib.ListN.{length, getD};
-ghost use Rattle.state.specs.View.{noSaved};
-ghost use Rattle.live.specs.Live.{labelOf, linkOf, savedOf};
+ghost use Prim.Native.Nat.{_<_};
+ghost use lib.ListN.{length};
+ghost use Rattle.state.specs.Fine.{Fine};
+ghost use Rattle.live.specs.Live.{labelOf, linkOf, savedOf, countsOf, stateOf};
+use crate::Counts;
 use state::Label;
 use state::Link;
 use state::Saved;
+use state::State;
 
 fn label_to(l: Label) -> u16
     ensures { λ x. ⌜ labelOf x ≡ l ⌝ }
@@ -28,36 +30,47 @@ fn context_to(k: Saved) -> u32
     crate::saved_number(k.method, k.pending, k.n)
 }
 
-pub fn labels_of(labels: [Label; 544]) -> [u16; 544]
-    ensures { λ r. ⌜ map labelOf r ≡ labels ⌝ }
+pub fn labels_of(s: State) -> [u16; 544]
+    ensures { λ r. ⌜ map labelOf r ≡ s .labels ⌝ }
 {
     let mut r = [0u16; 544];
     for i in 0..544 {
-        r[i] = label_to(labels[i]);
+        r[i] = label_to(s.labels[i]);
     }
     r
 }
 
-pub fn links_of(links: [Link; 256]) -> [u32; 256]
-    ensures { λ r. ⌜ map linkOf r ≡ links ⌝ }
+pub fn links_of(s: State) -> [u32; 256]
+    ensures { λ r. ⌜ map linkOf r ≡ s .links ⌝ }
 {
     let mut r = [0u32; 256];
     for i in 0..256 {
-        r[i] = link_to(links[i]);
+        r[i] = link_to(s.links[i]);
     }
     r
 }
 
 // A frame has 32 labels at most, so that their count fits its place.
-pub fn saved_of(saved: [Saved; 16]) -> [u32; 16]
-    requires { ⌜ ((i : ℕ) → getD saved i noSaved .n < 65536) ⌝ }
-    ensures { λ r. ⌜ map savedOf r ≡ saved ⌝ }
+pub fn saved_of(s: State) -> [u32; 16]
+    requires { ⌜ Fine s ⌝ }
+    ensures { λ r. ⌜ map savedOf r ≡ s .saved ⌝ }
 {
     let mut r = [0u32; 16];
     for i in 0..16 {
-        r[i] = context_to(saved[i]);
+        r[i] = context_to(s.saved[i]);
     }
     r
+}
+
+pub fn counts_of(s: State) -> Counts
+    ensures { λ at. ⌜ at ≡ countsOf s ⌝ }
+{
+    Counts {
+        nlinks: s.nlinks,
+        n: s.n,
+        depth: s.depth,
+        method: s.method,
+    }
 }
 
 fn label_from(x: u16) -> Label
@@ -127,4 +140,26 @@ pub fn saved_from(rows: &[u32; 16]) -> [Saved; 16]
         r[i] = context_from(rows[i]);
     }
     r
+}
+
+// The state that rows and counts mean.
+pub fn state_from(
+    labels: &[u16; 544],
+    links: &[u32; 256],
+    pool: [u8; 256],
+    saved: &[u32; 16],
+    at: Counts,
+) -> State
+    ensures { λ s. ⌜ (Fine (stateOf (now (labels .entry)) (now (links .entry)) pool (now (saved .entry)) at) → s ≡ stateOf (now (labels .entry)) (now (links .entry)) pool (now (saved .entry)) at) ⌝ }
+{
+    State {
+        pool: pool,
+        links: links_from(links),
+        nlinks: at.nlinks,
+        labels: labels_from(labels),
+        n: at.n,
+        saved: saved_from(saved),
+        depth: at.depth,
+        method: at.method,
+    }
 }

@@ -10,10 +10,10 @@ use Rattle.live.proofs.structs.labels_of.Statement.{statement}
 use Rattle.live.proofs.structs.labels_of.Tie as tie
 
 abbrev Inv-loop : tie.InvT-loop
-Inv-loop labels r₀ i₀ r i = (i ≤ 544) × ((length r ≡ 544) × Copied labelOf r labels i)
+Inv-loop s r₀ i₀ r i = (i ≤ 544) × ((length r ≡ 544) × Copied labelOf r (s .labels) i)
 
 abbrev μ-loop : tie.MeasureT-loop
-μ-loop labels r₀ i₀ r i = 544 - i
+μ-loop s r₀ i₀ r i = 544 - i
 
 loop-holds : tie.Need-loop-holds Inv-loop μ-loop
 loop-holds c = (search needs, (search needs, copied-none labelOf _ _))
@@ -21,8 +21,8 @@ loop-holds c = (search needs, (search needs, copied-none labelOf _ _))
 mul-label-to : tie.Need-mul-label-to Inv-loop μ-loop
 mul-label-to c = search needs
 
-array-copy-out-label-to : tie.Need-array-copy-out-label-to Inv-loop μ-loop
-array-copy-out-label-to c = search needs
+element-copy-out-label-to : tie.Need-element-copy-out-label-to Inv-loop μ-loop
+element-copy-out-label-to c = search needs
 
 label-to-requires : tie.Need-label-to-requires Inv-loop μ-loop
 label-to-requires c κs = search needs
@@ -47,7 +47,7 @@ loop-again c =
 returns : tie.Need-returns Inv-loop μ-loop
 returns c =
     let s = c .before in
-    let h : length (s .before .args .t1) ≡ 544 = search (needs, long) in
+    let h : length (s .before .args .t1 .labels) ≡ 544 = search (needs, long) in
     copied-all labelOf (s .loop .r) _ (s .loop .i) (s .loop .inv .1 .1) (search needs) (s .loop .inv .1 .0 ∙ sym h)
 
 pub labels-of-spec : {M : Type 1} → statement M
@@ -58,7 +58,7 @@ labels-of-spec =
     μ-loop
     loop-holds
     mul-label-to
-    array-copy-out-label-to
+    element-copy-out-label-to
     label-to-requires
     mul-r
     array-write-r

@@ -10,10 +10,10 @@ use Rattle.live.proofs.structs.links_of.Statement.{statement}
 use Rattle.live.proofs.structs.links_of.Tie as tie
 
 abbrev Inv-loop : tie.InvT-loop
-Inv-loop links r₀ i₀ r i = (i ≤ 256) × ((length r ≡ 256) × Copied linkOf r links i)
+Inv-loop s r₀ i₀ r i = (i ≤ 256) × ((length r ≡ 256) × Copied linkOf r (s .links) i)
 
 abbrev μ-loop : tie.MeasureT-loop
-μ-loop links r₀ i₀ r i = 256 - i
+μ-loop s r₀ i₀ r i = 256 - i
 
 loop-holds : tie.Need-loop-holds Inv-loop μ-loop
 loop-holds c = (search needs, (search needs, copied-none linkOf _ _))
@@ -21,8 +21,8 @@ loop-holds c = (search needs, (search needs, copied-none linkOf _ _))
 mul-link-to : tie.Need-mul-link-to Inv-loop μ-loop
 mul-link-to c = search needs
 
-array-copy-out-link-to : tie.Need-array-copy-out-link-to Inv-loop μ-loop
-array-copy-out-link-to c = search needs
+element-copy-out-link-to : tie.Need-element-copy-out-link-to Inv-loop μ-loop
+element-copy-out-link-to c = search needs
 
 link-to-requires : tie.Need-link-to-requires Inv-loop μ-loop
 link-to-requires c κs = search needs
@@ -47,7 +47,7 @@ loop-again c =
 returns : tie.Need-returns Inv-loop μ-loop
 returns c =
     let s = c .before in
-    let h : length (s .before .args .t1) ≡ 256 = search (needs, long) in
+    let h : length (s .before .args .t1 .links) ≡ 256 = search (needs, long) in
     copied-all linkOf (s .loop .r) _ (s .loop .i) (s .loop .inv .1 .1) (search needs) (s .loop .inv .1 .0 ∙ sym h)
 
 pub links-of-spec : {M : Type 1} → statement M
@@ -58,7 +58,7 @@ links-of-spec =
     μ-loop
     loop-holds
     mul-link-to
-    array-copy-out-link-to
+    element-copy-out-link-to
     link-to-requires
     mul-r
     array-write-r

@@ -4,7 +4,7 @@
 use Prim.Native.Nat.{ℕ, suc, _+_, _≤_, _<_}
 use native.Mathlib.Numerals.{add-one}
 use native.Mathlib.Omega.{arith}
-use mathlib.Core.Path.{_≡_, refl, sym, ap, _∙_}
+use mathlib.Core.Path.{_≡_, refl, sym, ap, subst, _∙_}
 use mathlib.Core.List.{List, map}
 use lib.ListN.{length, take, drop, getD, length-map, drop-of-length-le, List·getD-map}
 use lib.Seq.{drop-cons, getD-take}
@@ -37,7 +37,12 @@ use Rattle.steps.specs.declared.Steps.{Steps}
 use Rattle.steps.specs.View.{stepView, stepsView, zeroStep}
 use Rattle.calls.specs.Called.{MethodAt}
 use Rattle.calls.proofs.Rows.{any-default}
+use Rattle.walk.specs.declared.Outcome.{Outcome}
 use Rattle.walk.specs.Walk.{Walk, outcomeOf}
+
+-- what is known of a run from one name of its start is known from another
+pub from-same : {rows exact alike pairs : List ℕ} {methods : Methods} {steps : Steps} {s t : State} {x : Outcome} → s ≡ t → ((v : Walk rows exact alike pairs methods s steps) → x ≡ outcomeOf (runFrom (v .loaded) (v .begun .state) 0 (stepsView steps))) → (w : Walk rows exact alike pairs methods t steps) → x ≡ outcomeOf (runFrom (w .loaded) (w .begun .state) 0 (stepsView steps))
+from-same {rows} {exact} {alike} {pairs} {methods} {steps} {x = x} e h = subst (λ (s : State). (v : Walk rows exact alike pairs methods s steps) → x ≡ outcomeOf (runFrom (v .loaded) (v .begun .state) 0 (stepsView steps))) e h
 
 -- a refusal has a number
 missing-number : {P : Package} {s : M.State} {k : M.Step} {x : ℕ} → FirstMissing P s k x → x ≡ 0 → ⊥

@@ -16,7 +16,9 @@ use Rattle.state.specs.View.{pack}
 use Rattle.steps.specs.declared.Steps.{Steps}
 use Rattle.steps.specs.View.{stepsView}
 use Rattle.machine.specs.Equipped.{Equipped}
+use Rattle.live.specs.Live.{stateOf}
 use Rattle.walk.specs.declared.Outcome.{Outcome}
+use Rattle.walk.specs.declared.Walked.{Walked}
 
 -- a start that is admitted, and steps that name references where they must
 pub record Begun (P : Package) (start : State) (steps : Steps) : Type 0 where
@@ -37,3 +39,7 @@ pub record Walk (rows exact alike pairs : List ℕ) (methods : Methods) (start :
 
 abbrev pub outcomeOf : R.Outcome → Outcome
 outcomeOf o = record { number = o .answer .number; line = o .answer .first; taken = o .answer .second; state = pack (o .state) }
+
+-- with the rows behind the counts
+abbrev pub walkedTo : Walked → List ℕ → List ℕ → List ℕ → List ℕ → Outcome
+walkedTo r labels links pool saved = record { number = r .number; line = r .line; taken = r .taken; state = stateOf labels links pool saved (r .now) }

@@ -1,9 +1,14 @@
 // The steps of a run, one after the other, as long as the machine takes them.
 ghost use mathlib.Core.Path.{_≡_};
-ghost use Prim.Native.Nat.{_<_};
+ghost use Prim.Native.Nat.{_≤_, _<_};
 ghost use Rattle.runs.specs.Run.{runFrom};
 ghost use Rattle.steps.specs.View.{stepsView};
-ghost use Rattle.walk.specs.Walk.{Walk, outcomeOf};
+ghost use Rattle.state.specs.Fine.{Fine};
+ghost use Rattle.live.specs.Live.{stateOf};
+ghost use Rattle.walk.specs.Walk.{Walk, outcomeOf, walkedTo};
+use live::Counts;
+use live::Moved;
+use live::structs;
 use state::State;
 use steps::Step;
 use steps::Steps;
@@ -17,10 +22,74 @@ pub struct Outcome {
     pub state: State,
 }
 
+// The same with the counts, while the state is rows that are lent.
+struct Walked {
+    pub number: u8,
+    pub line: u16,
+    pub taken: u16,
+    pub now: Counts,
+}
+
 fn wide(x: u8) -> usize
     ensures { λ r. ⌜ (r ≡ x) × (r < 256) ⌝ }
 {
     x as usize
+}
+
+fn ended(m: Moved, line: u16, taken: usize) -> Walked
+    requires { ⌜ taken ≤ 1024 ⌝ }
+    ensures { λ r. ⌜ r ≡ record { number = m .code; line = line; taken = taken; now = m .now } ⌝ }
+{
+    let now = m.now;
+    Walked {
+        number: m.code,
+        line: line,
+        taken: taken as u16,
+        now: now,
+    }
+}
+
+// The steps on the rows of the start.
+fn take(
+    labels: &mut [u16; 544],
+    links: &mut [u32; 256],
+    pool: &mut [u8; 256],
+    saved: &mut [u32; 16],
+    at: Counts,
+    steps: Steps,
+    methods: Methods,
+    rows: &[u64; 254],
+    exact: &[u32],
+    alike: &[u32],
+    pairs: &[u16; 256],
+) -> Walked
+    requires { ⌜ Walk (now rows) (now exact) (now alike) (now pairs) methods (stateOf (now labels) (now links) (now pool) (now saved) at) steps ⌝ }
+    ensures { λ r. ⌜ ((w : Walk (now (rows .entry)) (now (exact .entry)) (now (alike .entry)) (now (pairs .entry)) methods (stateOf (now (labels .entry)) (now (links .entry)) (now (pool .entry)) (now (saved .entry)) at) steps) → walkedTo r (now (labels .exit)) (now (links .exit)) (now (pool .exit)) (now (saved .exit)) ≡ outcomeOf (runFrom (w .loaded) (w .begun .state) 0 (stepsView steps))) ⌝ }
+    ensures { λ r. ⌜ Fine (stateOf (now (labels .exit)) (now (links .exit)) (now (pool .exit)) (now (saved .exit)) (r .now)) ⌝ }
+{
+    let mut now = at;
+    for i in 0..steps.n {
+        let k = steps.at[i];
+        let m = machine::step_on(
+            labels,
+            links,
+            pool,
+            saved,
+            now,
+            rows,
+            exact,
+            alike,
+            pairs,
+            k,
+            methods.at[wide(k.b[1])],
+            methods.at[wide(k.b[2])],
+        );
+        if m.code != 0 {
+            return ended(m, k.line, i);
+        }
+        now = m.now;
+    }
+    ended(Moved { code: 0, now }, 0, steps.n)
 }
 
 pub fn walk(
@@ -35,30 +104,28 @@ pub fn walk(
     requires { ⌜ Walk (now rows) (now exact) (now alike) (now pairs) methods start steps ⌝ }
     ensures { λ r. ⌜ ((w : Walk (now (rows .entry)) (now (exact .entry)) (now (alike .entry)) (now (pairs .entry)) methods start steps) → r ≡ outcomeOf (runFrom (w .loaded) (w .begun .state) 0 (stepsView steps))) ⌝ }
 {
-    let mut s = start;
-    let mut i = 0;
-    while i < steps.n {
-        let k = steps.at[i];
-        let called = methods.at[wide(k.b[1])];
-        let runs = methods.at[wide(k.b[2])];
-        let d = machine::step(s, rows, exact, alike, pairs, k, called, runs);
-        if d.code != 0 {
-            let last = d.state;
-            return Outcome {
-                number: d.code,
-                line: k.line,
-                taken: i as u16,
-                state: last,
-            };
-        }
-        let next = d.state;
-        s = next;
-        i += 1;
-    }
+    let mut labels = structs::labels_of(start);
+    let mut links = structs::links_of(start);
+    let mut pool = start.pool;
+    let mut saved = structs::saved_of(start);
+    let at = structs::counts_of(start);
+    let w = take(
+        &mut labels,
+        &mut links,
+        &mut pool,
+        &mut saved,
+        at,
+        steps,
+        methods,
+        rows,
+        exact,
+        alike,
+        pairs,
+    );
     Outcome {
-        number: 0,
-        line: 0,
-        taken: i as u16,
-        state: s,
+        number: w.number,
+        line: w.line,
+        taken: w.taken,
+        state: structs::state_from(&labels, &links, pool, &saved, w.now),
     }
 }

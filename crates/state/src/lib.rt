@@ -1,11 +1,9 @@
 // The run state by value: flat arrays of links, labels and saved contexts with their counts, and the pool. What it means is specs/View.antt.
 ghost use mathlib.Core.Path.{_≡_};
-ghost use mathlib.Core.Bool.{false};
-ghost use Prim.Native.Nat.{_+_, _*_, _≤_, _<_};
+ghost use Prim.Native.Nat.{_+_, _*_, _≤_};
 ghost use Rattle.runs.specs.Machine.{label, sameLabel, sameLink};
-ghost use Rattle.runs.specs.Steps.{holds, holdsRef, hasLink, inPool, join, make, link};
-ghost use Rattle.state.specs.View.{labelView, linkView, frameView, linksView, poolFrom, view, pack, nothingOf};
-ghost use Rattle.state.specs.Fine.{Fine, doneOf};
+ghost use Rattle.runs.specs.Steps.{holds, hasLink, inPool};
+ghost use Rattle.state.specs.View.{labelView, linkView, frameView, linksView, poolFrom, pack, nothingOf};
 
 // r labelled c, in a frame
 pub struct Label {
@@ -98,23 +96,6 @@ pub fn has_label(labels: [Label; 544], depth: usize, n: usize, r: u8, c: u8) -> 
     false
 }
 
-// Whether that frame has r at any label.
-pub fn has_ref(labels: [Label; 544], depth: usize, n: usize, r: u8) -> bool
-    requires { ⌜ 32 * depth + n ≤ 544 ⌝ }
-    ensures { λ x. ⌜ x ≡ holdsRef (frameView labels depth n) r ⌝ }
-{
-    let base = 32 * depth;
-    let mut i = 0;
-    while i < n {
-        let l = labels[base + i];
-        if l.r == r {
-            return true;
-        }
-        i += 1;
-    }
-    false
-}
-
 fn is_link(k: Link, l: Link) -> bool
     ensures { λ x. ⌜ x ≡ sameLink (linkView k) (linkView l) ⌝ }
 {
@@ -151,59 +132,4 @@ pub fn in_pool(pool: [u8; 256], r: u8) -> bool
     ensures { λ x. ⌜ x ≡ inPool (poolFrom 0 pool) r ⌝ }
 {
     pool[r as usize] != 255
-}
-
-// r labelled c joins the running frame.
-pub fn add_label(s: State, r: u8, c: u8) -> Done
-    requires { ⌜ Fine s ⌝ }
-    ensures { λ d. ⌜ d ≡ doneOf s (join (view s) r c) ⌝ }
-{
-    let labels = s.labels;
-    let depth = s.depth;
-    let n = s.n;
-    if has_label(labels, depth, n, r, c) {
-        return Done { code: 0, state: s };
-    }
-    if 32 <= n {
-        return Done { code: 63, state: s };
-    }
-    let mut t = s;
-    t.labels[32 * depth + n] = Label { r: r, c: c };
-    t.n = n + 1;
-    Done { code: 0, state: t }
-}
-
-// The new object r of class c joins the pool, and r labelled c the running frame.
-pub fn add_object(s: State, r: u8, c: u8) -> Done
-    requires { ⌜ Fine s ⌝ }
-    requires { ⌜ inPool (view s .pool) r ≡ false ⌝ }
-    ensures { λ d. ⌜ d ≡ doneOf s (make (view s) r c) ⌝ }
-{
-    let d = add_label(s, r, c);
-    let code = d.code;
-    if code != 0 {
-        return d;
-    }
-    let mut t = d.state;
-    t.pool[r as usize] = c;
-    Done { code: 0, state: t }
-}
-
-// A link joins the links.
-pub fn add_link(s: State, k: Link) -> Done
-    requires { ⌜ Fine s ⌝ }
-    ensures { λ d. ⌜ d ≡ doneOf s (link (view s) (linkView k)) ⌝ }
-{
-    let links = s.links;
-    let n = s.nlinks;
-    if has_link(links, n, k) {
-        return Done { code: 0, state: s };
-    }
-    if 256 <= n {
-        return Done { code: 63, state: s };
-    }
-    let mut t = s;
-    t.links[n] = k;
-    t.nlinks = n + 1;
-    Done { code: 0, state: t }
 }

@@ -4,7 +4,7 @@ use Prim.Native.Nat.{ℕ}
 use borrow.Author.Needs.{needs}
 use Rattle.state.specs.View.{linkView}
 use Rattle.live.specs.Live.{linkOf}
-use Rattle.moves.proofs.Lent.{link-of}
+use Rattle.live.proofs.Copied.{link-of}
 use Rattle.moves.proofs.link_of.Statement.{statement}
 use Rattle.moves.proofs.link_of.Tie as tie
 

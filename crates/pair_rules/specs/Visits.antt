@@ -1,9 +1,9 @@
 -- Which second places a search looks at beside a first one: those of the same key, in rising order. A pair of other keys breaks no rule.
 -- Assumes nothing.
-use Prim.Native.Nat.{ℕ, _+_, _≤_, _<_}
+use Prim.Native.Nat.{ℕ, _+_, _%_, _≤_, _<_}
 use mathlib.Core.Path.{_≡_}
 use mathlib.Core.Bool.{Bool, true, false}
-use mathlib.Core.List.{List}
+use mathlib.Core.List.{List, map}
 use lib.ListN.{length, getD}
 
 -- r is the first place from `from` on whose key is k, or n
@@ -12,6 +12,14 @@ pub record FirstFrom (keys : List ℕ) (n from k r : ℕ) : Type 0 where
   pub most : r ≤ n
   pub hit : r < n → getD keys r 0 ≡ k
   pub skips : (i : ℕ) → from ≤ i → i < r → getD keys i 0 ≡ k → ⊥
+
+-- the low bytes of the keys
+unfoldable pub lows : List ℕ → List ℕ
+lows keys = map (λ (k : ℕ). k % 256) keys
+
+-- behind each place the next one whose key has the same low byte, or n
+pub record Nearest (keys : List ℕ) (n : ℕ) (near : List ℕ) : Type 0 where
+  pub at : (a : ℕ) → a < n → FirstFrom (lows keys) n (a + 1) (getD (lows keys) a 0) (getD near a 0)
 
 -- where the row of a starts: at n for the key 0
 pub record StartOf (keys : List ℕ) (n a r : ℕ) : Type 0 where

@@ -17,31 +17,25 @@ abbrev nextOf : List ℕ → ℕ → ℕ → ℕ → Type 0
 nextOf keys n i r = FirstFrom keys n (i + 1) (getD keys i 0) r
 
 abbrev Inv-loop : tie.InvT-loop
-Inv-loop keys n starts₀ nexts₀ a₀ starts nexts a = (a ≤ n) × (length nexts ≡ 256) × Started keys n a starts × Filled (nextOf keys n) a nexts
+Inv-loop keys n starts₀ near nexts₀ a₀ starts nexts a = (a ≤ n) × (length nexts ≡ 256) × Started keys n a starts × Filled (nextOf keys n) a nexts
 
 abbrev μ-loop : tie.MeasureT-loop
-μ-loop keys n starts₀ nexts₀ a₀ starts nexts a = n - a
+μ-loop keys n starts₀ near nexts₀ a₀ starts nexts a = n - a
 
 own-starts-requires : tie.Need-own-starts-requires Inv-loop μ-loop
 own-starts-requires c κs = search needs
 
+nearest-requires : tie.Need-nearest-requires Inv-loop μ-loop
+nearest-requires c κs = search needs
+
 loop-holds : tie.Need-loop-holds Inv-loop μ-loop
-loop-holds c = (omega arith, search needs, c .own-starts .ensures, filled-none _ _)
+loop-holds c = (omega arith, search needs, c .before .own-starts .ensures, filled-none _ _)
 
-add-first-from : tie.Need-add-first-from Inv-loop μ-loop
-add-first-from c = search needs
-
-mul-first-from : tie.Need-mul-first-from Inv-loop μ-loop
-mul-first-from c = search needs
-
-element-copy-out-first-from : tie.Need-element-copy-out-first-from Inv-loop μ-loop
-element-copy-out-first-from c = search needs
-
-first-from-requires : tie.Need-first-from-requires Inv-loop μ-loop
-first-from-requires c κs = search needs
+next-of-requires : tie.Need-next-of-requires Inv-loop μ-loop
+next-of-requires c κs = search needs
 
 cast-nexts : tie.Need-cast-nexts Inv-loop μ-loop
-cast-nexts c = record { fits = omega (arith, c .first-from .ensures .most) }
+cast-nexts c = record { fits = omega (arith, c .next-of .ensures .most) }
 
 mul-nexts : tie.Need-mul-nexts Inv-loop μ-loop
 mul-nexts c = search needs
@@ -70,9 +64,9 @@ loop-less c = search needs
 loop-again : tie.Need-loop-again Inv-loop μ-loop
 loop-again c = (
   omega arith,
-  length-set (c .before .before .before .before .loop .nexts) (c .before .before .before .before .loop .a) (c .before .first-from .result) ∙ c .before .before .before .before .loop .inv .1,
-  ⊎-elim (λ w. rw (w .1) (started-next (c .before .before .before .loop-test .taken) (omega arith) (c .before .first-from .ensures) (c .before .before .before .before .loop .inv .2) (w .0 .taken))) (λ w. rw (w .1) (started-last (c .before .before .before .loop-test .taken) (omega arith) (c .before .first-from .ensures) (c .before .before .before .before .loop .inv .2) (w .0 .left))) (c .if1 .came),
-  filled-more (nextOf (c .before .before .before .before .before .before .args .keys .now) (c .before .before .before .before .before .before .args .n)) _ _ _ (omega arith) (c .before .first-from .ensures) (c .before .before .before .before .loop .inv .3),
+  length-set (c .before .before .before .before .loop .nexts) (c .before .before .before .before .loop .a) (c .before .next-of .result) ∙ c .before .before .before .before .loop .inv .1,
+  ⊎-elim (λ w. rw (w .1) (started-next (c .before .before .before .loop-test .taken) (omega arith) (c .before .next-of .ensures) (c .before .before .before .before .loop .inv .2) (w .0 .taken))) (λ w. rw (w .1) (started-last (c .before .before .before .loop-test .taken) (omega arith) (c .before .next-of .ensures) (c .before .before .before .before .loop .inv .2) (w .0 .left))) (c .if1 .came),
+  filled-more (nextOf (c .before .before .before .before .before .before .before .args .keys .now) (c .before .before .before .before .before .before .before .args .n)) _ _ _ (omega arith) (c .before .next-of .ensures) (c .before .before .before .before .loop .inv .3),
 )
 
 returns : tie.Need-returns Inv-loop μ-loop
@@ -85,11 +79,9 @@ visits-of-spec =
     Inv-loop
     μ-loop
     own-starts-requires
+    nearest-requires
     loop-holds
-    add-first-from
-    mul-first-from
-    element-copy-out-first-from
-    first-from-requires
+    next-of-requires
     cast-nexts
     mul-nexts
     array-write-nexts

@@ -3,12 +3,12 @@
 use Prim.Native.Nat.{ℕ, _+_, _<_}
 use native.Mathlib.Omega.{arith}
 use mathlib.Core.Path.{_≡_, refl, sym, ap, _∙_}
-use mathlib.Core.Bool.{Bool, true, false, cond, false≢true, true≢false}
+use mathlib.Core.Bool.{Bool, true, false, _&&_, cond, false≢true, true≢false}
 use mathlib.Core.Option.{Option, none, some, Option·none-ne-some}
 use mathlib.Core.List.{List}
-use lib.Dec.{eqb, lit<}
+use lib.Dec.{eqb, ltb, lit<}
 use lib.ListN.{length, getD}
-use borrow.Author.Tests.{eq-eqb, ne-eqb, lt-leb, eqb-true}
+use borrow.Author.Tests.{eq-eqb, ne-eqb, lt-leb, eqb-true, ltb-true}
 use Rattle.meaning.specs.Text.{frameAt, byte}
 use Rattle.meaning.specs.Kinds.{rowOf, fits}
 use Rattle.meaning.proofs.Reading.{framed}
@@ -33,6 +33,15 @@ cut-fits t = ap fitsFrame (t .frame) ∙ fits-packed (t .f)
 -- the section that the code reads off the frame's first byte
 pub section-is : {s : List ℕ} {place : ℕ} {r : Cut} (t : Taken s place r) {k : Kind} → k ≡ kindIn (rowOf (getD (r .frame .b) 0 0)) → rowOf (byte (t .f) 0) .section ≡ k .section
 section-is t e = ap (λ (b : ℕ). rowOf b .section) (cut-byte t 0 (lit< tt)) ∙ sym (ap (λ (k : Kind). k .section) e)
+
+-- the test for a section before the steps'
+pub early : (k : ℕ) → (ltb 0 k && ltb k 0x20) ≡ true → (0 < k) × (k < 0x20)
+early k = on (ltb 0 k) (ltb k 0x20) refl refl
+  where
+    on : (a b : Bool) → ltb 0 k ≡ a → ltb k 0x20 ≡ b → (a && b) ≡ true → (0 < k) × (k < 0x20)
+    on true true p q w = (ltb-true 0 k p, ltb-true k 0x20 q)
+    on true false p q w = absurd (false≢true w)
+    on false b p q w = absurd (false≢true w)
 
 -- ---- at a cursor
 

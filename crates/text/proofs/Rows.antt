@@ -3,12 +3,13 @@
 use Prim.Native.Nat.{ℕ, zero, suc, _+_, _≤_, _<_}
 use native.Mathlib.Nat.{le-of-suc-le-suc, not-suc-le-zero}
 use native.Mathlib.Omega.{arith}
-use mathlib.Core.Path.{_≡_, refl, ap, _∙_}
-use mathlib.Core.Bool.{Bool}
+use mathlib.Core.Path.{_≡_, refl, sym, ap, subst, _∙_}
+use mathlib.Core.Bool.{Bool, not, _||_}
 use mathlib.Core.Option.{Option, none, some}
 use mathlib.Core.List.{List, [], _∷_}
-use lib.Dec.{eqb, ltb, eqb→eq, ltb→lt, lit<}
+use lib.Dec.{T, eqb, ltb, eqb→eq, ltb→lt, lit<}
 use lib.ListN.{getD}
+use borrow.Author.Tests.{lt-ltb}
 use Rattle.meaning.specs.Lists.{In, all, first}
 use Rattle.meaning.specs.Kinds.{kinds, unknown, orUnknown, rowOf}
 use Rattle.meaning.specs.Kinds as M
@@ -55,6 +56,21 @@ row-unknown b h = on (row-of b)
     on : {k : M.Kind} → Row b k → k ≡ unknown
     on other = refl
     on (listed {k} i e) = absurd (omega (arith, ltb→lt (k .kind) 48 (all-sound (λ (k : M.Kind). ltb (k .kind) 48) tt i)))
+
+-- each section before the steps' has one kind, of its own number
+pub row-alone : (b s : ℕ) → 0 < s → s < 0x20 → rowOf b .section ≡ s → b ≡ s
+unfolding all
+row-alone b s z l = on (row-of b)
+  where
+    alone : M.Kind → Bool
+    alone k = not (ltb (k .section) 0x20) || eqb (k .section) (k .kind)
+
+    told : (x y : ℕ) → x < 0x20 → T (not (ltb x 0x20) || eqb x y) → x ≡ y
+    told x y h w = eqb→eq x y (subst (λ (t : Bool). T (not t || eqb x y)) (lt-ltb x 0x20 h) w)
+
+    on : {k : M.Kind} → Row b k → k .section ≡ s → b ≡ s
+    on other e = absurd (omega (arith, e, z))
+    on (listed {k} i e) h = sym e ∙ (sym (told (k .section) (k .kind) (omega (arith, h, l)) (all-sound alone tt i)) ∙ h)
 
 -- a count byte stands among a frame's first bytes
 pub row-counter : (b : ℕ) → (rowOf b) .counter < 16

@@ -1,2 +1,2 @@
-pub mod Keys
-pub mod Made
+pub mod Fields
+pub mod Chains

@@ -1,37 +1,17 @@
-// Which steps a package's effects permit: the effects as keys, made once for a run, and a search among them. What they mean is specs/Keys.antt.
+// Which steps a package's effects permit: the effects as chains, made once for a run, and a walk along one of them. What they mean is specs/Chains.antt.
 ghost use mathlib.Core.Path.{_≡_};
-ghost use Prim.Native.Nat.{_≤_, _/_, _%_};
+ghost use Prim.Native.Nat.{_<_, _≤_, _/_, _%_};
 ghost use lib.ListN.{getD};
-ghost use Rattle.meaning.specs.Lists.{member};
 ghost use Rattle.meaning.specs.Tables.{Package, fieldClass, fieldType};
 ghost use Rattle.runs.specs.Steps.{permits, permitsField};
 ghost use Rattle.tables.specs.View.{fieldsView, effectsView};
-ghost use Rattle.permits.specs.Made.{keysOf};
-ghost use Rattle.permits.specs.Keys.{pairOf, pairsOf, exactKey, alikeKey, Pairs, Exact, Alike};
-
-// A key for each effect, by the number that it names and by the field's declaring class and type, and their count.
-pub struct KeyTable {
-    pub exact: [u32; 1024],
-    pub alike: [u32; 1024],
-    pub n: usize,
-}
+ghost use Rattle.permits.specs.Fields.{pairOf, pairsOf, Pairs};
+ghost use Rattle.permits.specs.Chains.{group, chainsOf, Chained};
 
 fn pair(class: u8, typ: u8) -> u16
     ensures { λ r. ⌜ r ≡ pairOf class typ ⌝ }
 {
     (class as u16) * 256 + (typ as u16)
-}
-
-fn exact_key(m: u8, op: u8, x: u8) -> u32
-    ensures { λ r. ⌜ r ≡ exactKey m op x ⌝ }
-{
-    (m as u32) * 65536 + (op as u32) * 256 + (x as u32)
-}
-
-fn alike_key(m: u8, op: u8, pair: u16) -> u32
-    ensures { λ r. ⌜ r ≡ alikeKey m op pair ⌝ }
-{
-    (m as u32) * 16777216 + (op as u32) * 65536 + (pair as u32)
 }
 
 // The declaring class and the type of each field.
@@ -48,57 +28,65 @@ pub fn pairs(fields: tables::Fields) -> [u16; 256]
     pairs
 }
 
-// The two keys of each effect.
-pub fn keys(effects: tables::Effects, pairs: &[u16; 256]) -> KeyTable
-    requires { ⌜ effects .n ≤ 1024 ⌝ }
-    ensures { λ r. ⌜ r ≡ keysOf (now (pairs .entry)) (effectsView effects) ⌝ }
+// Effects of one method and one op are a group.
+fn group(m: u8, op: u8) -> usize
+    ensures { λ r. ⌜ r ≡ group m op ⌝ }
+    ensures { λ r. ⌜ r < 2048 ⌝ }
 {
-    let mut exact = [0u32; 1024];
-    let mut alike = [0u32; 1024];
-    let n = effects.n;
-    for i in 0..n {
-        let e = effects.at[i];
-        let x = e.number as usize;
-        exact[i] = exact_key(e.method, e.op, e.number);
-        alike[i] = alike_key(e.method, e.op, pairs[x]);
-    }
-    KeyTable {
-        exact: exact,
-        alike: alike,
-        n: n,
-    }
+    (m as usize) * 8 + ((op % 8) as usize)
 }
 
-// All are gone through, and none is left early: so the machine compares several at once.
-fn has_key(keys: &[u32], key: u32) -> bool
-    ensures { λ r. ⌜ r ≡ member key (now (keys .entry)) ⌝ }
+// The first effect of each group, the next one behind each effect, and the number that each effect names. From the last effect on, so that each
+// one finds the next of its group as the first that is noted.
+pub fn chains(effects: tables::Effects) -> [u16; 4096]
+    requires { ⌜ effects .n ≤ 1024 ⌝ }
+    ensures { λ r. ⌜ r ≡ chainsOf (effectsView effects) ⌝ }
 {
-    let mut found = false;
-    let mut i = 0;
-    while i < keys.len() {
-        if keys[i] == key {
-            found = true;
-        }
-        i += 1;
+    let mut r = [1024u16; 4096];
+    let mut i = effects.n;
+    while 0 < i {
+        i -= 1;
+        let e = effects.at[i];
+        let g = group(e.method, e.op);
+        r[2048 + i] = r[g];
+        r[3072 + i] = e.number as u16;
+        r[g] = i as u16;
     }
-    found
+    r
 }
 
 // Whether an effect of m has this op on the number x.
-pub fn permitted(exact: &[u32], m: u8, op: u8, x: u8) -> bool
-    ensures { λ r. ⌜ r ≡ member (exactKey m op x) (now (exact .entry)) ⌝ }
-    ensures { λ r. ⌜ ((P : Package) → Exact P (now (exact .entry)) → r ≡ permits P m op x) ⌝ }
+pub fn permitted(effects: &[u16; 4096], m: u8, op: u8, x: u8) -> bool
+    requires { ⌜ op < 8 ⌝ }
+    requires { ⌜ ((P : Package) × Chained P (now effects)) ⌝ }
+    ensures { λ r. ⌜ ((P : Package) → Chained P (now (effects .entry)) → r ≡ permits P m op x) ⌝ }
 {
-    has_key(exact, exact_key(m, op, x))
+    let mut i = effects[group(m, op)] as usize;
+    while i < 1024 {
+        if effects[3072 + i] == (x as u16) {
+            return true;
+        }
+        i = effects[2048 + i] as usize;
+    }
+    false
 }
 
 // Whether an effect of m has this op on a field of the declaring class and type of f.
-pub fn permitted_field(alike: &[u32], pairs: &[u16; 256], m: u8, op: u8, f: u8) -> bool
-    ensures { λ r. ⌜ r ≡ member (alikeKey m op (getD (now (pairs .entry)) f 0)) (now (alike .entry)) ⌝ }
-    ensures { λ r. ⌜ ((P : Package) → Pairs P (now (pairs .entry)) → Alike P (now (alike .entry)) → r ≡ permitsField P m op f) ⌝ }
+pub fn permitted_field(effects: &[u16; 4096], pairs: &[u16; 256], m: u8, op: u8, f: u8) -> bool
+    requires { ⌜ op < 8 ⌝ }
+    requires { ⌜ ((P : Package) × (Pairs P (now pairs) × Chained P (now effects))) ⌝ }
+    ensures { λ r. ⌜ ((P : Package) → Pairs P (now (pairs .entry)) → Chained P (now (effects .entry)) → r ≡ permitsField P m op f) ⌝ }
 {
     let pair = pairs[f as usize];
-    has_key(alike, alike_key(m, op, pair))
+    let mut i = effects[group(m, op)] as usize;
+    while i < 1024 {
+        let x = (effects[3072 + i] % 256) as usize;
+        if pairs[x] == pair {
+            return true;
+        }
+        i = effects[2048 + i] as usize;
+    }
+    false
 }
 
 // The declaring class of a field.

@@ -1,7 +1,7 @@
 -- `permits::pair` meets its contract: each part fits its place. Assumes nothing.
 use mathlib.Core.Path.{refl}
 use borrow.Author.Needs.{needs}
-use Rattle.permits.specs.Keys.{pairOf}
+use Rattle.permits.specs.Fields.{pairOf}
 use Rattle.permits.proofs.pair.Statement.{statement}
 use Rattle.permits.proofs.pair.Tie as tie
 

@@ -8,7 +8,7 @@ use borrow.Author.Needs.{needs}
 use Rattle.tables.specs.View.{fieldView, fieldsView, zeroField}
 use Rattle.tables.specs.Pack.{pad}
 use Rattle.tables.proofs.Access.{long}
-use Rattle.permits.specs.Keys.{fieldPair, pairsOf}
+use Rattle.permits.specs.Fields.{fieldPair, pairsOf}
 use Rattle.tables.proofs.Filled.{Filled, filled-more, filled-all}
 use Rattle.permits.proofs.pairs.Statement.{statement}
 use Rattle.permits.proofs.pairs.Tie as tie

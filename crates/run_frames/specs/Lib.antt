@@ -1,3 +1,4 @@
 pub mod Judging
 pub mod Elements
 pub mod Pools
+pub mod Declares

@@ -1,109 +1,94 @@
 // 12 cc tt qq, and 13 pp cc tt qq.
 use crate::tests;
-use state::Link;
-use tables::Field;
-use tables::Fields;
-use text::Frame;
 ghost use mathlib.Core.Path.{_≡_};
-ghost use Rattle.runs.specs.Script.{isFieldOf};
-ghost use Rattle.tables.specs.View.{fieldView};
-ghost use Rattle.run_frames.specs.Judging.{fieldAmong, judgeStaticLink, judgeObjectLink};
+ghost use mathlib.Core.Bool.{_&&_};
+ghost use Prim.Native.Nat.{_≤_};
+ghost use lib.ListN.{length, getD};
+ghost use Rattle.tables.specs.declared.Fields.{Fields};
+ghost use Rattle.bits.specs.Rows.{rowBit};
+ghost use Rattle.frames.specs.Judging.{frameOf, below};
+ghost use Rattle.live.specs.Live.{linkOf, linkNumber};
+ghost use Rattle.run_frames.specs.Declares.{Declares};
+ghost use Rattle.run_frames.specs.Judging.{judgeStaticLink, judgeObjectLink};
 ghost use Rattle.run_frames.specs.Elements.{staticLinkIn, objectLinkIn};
 
-fn is_field(x: Field, c: u8, t: u8, s: u8) -> bool
-    ensures { λ r. ⌜ r ≡ isFieldOf c t s (fieldView x) ⌝ }
+// Whether the rows have the type t for the class c, both of nc classes.
+fn is_declared(declared: &[u64; 254], nc: usize, c: u8, t: u8) -> bool
+    requires { ⌜ nc ≤ 127 ⌝ }
+    ensures { λ r. ⌜ r ≡ ((below nc c && below nc t) && rowBit (now (declared .entry)) c t) ⌝ }
 {
-    if x.class != c {
+    if !tests::below(c, nc) {
         return false;
     }
-    if x.typ != t {
+    if !tests::below(t, nc) {
         return false;
     }
-    x.stat == (s as u16)
+    bits::wide_has(declared, c as usize, t as usize)
 }
 
-// Whether a field has this class, type and static byte.
-fn some_field(fields: Fields, c: u8, t: u8, s: u8) -> bool
-    ensures { λ r. ⌜ r ≡ fieldAmong fields c t s ⌝ }
-{
-    let n = fields.n;
-    let mut i: usize = 0;
-    while i < 256 {
-        if n <= i {
-            return false;
-        }
-        let x = fields.at[i];
-        if is_field(x, c, t, s) {
-            return true;
-        }
-        i += 1;
-    }
-    false
-}
-
-// With nc classes, n links before it, the fields, the classes of the objects, and the rows of the supertypes.
+// With nc classes, n links before it, the rows of the static fields, the classes of the objects, and the rows of the supertypes.
 pub fn judge_static_link(
     nc: usize,
     n: usize,
-    fields: Fields,
-    pool: [u8; 256],
+    declared: &[u64; 254],
+    pool: &[u8; 256],
     rows: &[u64; 254],
-    f: Frame,
+    b: &[u8; 16],
+    len: usize,
 ) -> u8
-    ensures { λ r. ⌜ r ≡ judgeStaticLink nc n fields pool (now (rows .entry)) f ⌝ }
+    requires { ⌜ nc ≤ 127 ⌝ }
+    requires { ⌜ length (now pool) ≡ 256 ⌝ }
+    requires { ⌜ ((fields : Fields) × Declares 1 fields (now declared)) ⌝ }
+    ensures { λ r. ⌜ ((fields : Fields) → Declares 1 fields (now (declared .entry)) → r ≡ judgeStaticLink nc n fields (now (pool .entry)) (now (rows .entry)) (frameOf (now (b .entry)) len)) ⌝ }
 {
-    let c = f.b[1];
-    let t = f.b[2];
-    let q = f.b[3];
-    let declared = tests::below(c, nc)
-        & tests::below(t, nc)
-        & some_field(fields, c, t, 1)
-        & state::in_pool(pool, q);
-    let typed = moves::is_a(rows, &pool, q, t);
-    tests::judge(n < 256, text::fits(f), declared, typed)
+    let c = b[1];
+    let t = b[2];
+    let q = tests::byte(b[3]);
+    let named = is_declared(declared, nc, c, t) & state::in_pool(pool, q);
+    let typed = moves::is_a(rows, pool, q, t);
+    tests::judge(n < 256, text::fits_as(0x12, b, len), named, typed)
 }
 
+// The same with the rows of the instance fields.
 pub fn judge_object_link(
     nc: usize,
     n: usize,
-    fields: Fields,
-    pool: [u8; 256],
+    declared: &[u64; 254],
+    pool: &[u8; 256],
     rows: &[u64; 254],
-    f: Frame,
+    b: &[u8; 16],
+    len: usize,
 ) -> u8
-    ensures { λ r. ⌜ r ≡ judgeObjectLink nc n fields pool (now (rows .entry)) f ⌝ }
+    requires { ⌜ nc ≤ 127 ⌝ }
+    requires { ⌜ length (now pool) ≡ 256 ⌝ }
+    requires { ⌜ ((fields : Fields) × Declares 0 fields (now declared)) ⌝ }
+    ensures { λ r. ⌜ ((fields : Fields) → Declares 0 fields (now (declared .entry)) → r ≡ judgeObjectLink nc n fields (now (pool .entry)) (now (rows .entry)) (frameOf (now (b .entry)) len)) ⌝ }
 {
-    let p = f.b[1];
-    let c = f.b[2];
-    let t = f.b[3];
-    let q = f.b[4];
-    let declared = state::in_pool(pool, p)
-        & tests::below(c, nc)
-        & tests::below(t, nc)
-        & some_field(fields, c, t, 0)
-        & state::in_pool(pool, q);
-    let typed = moves::is_a(rows, &pool, q, t) & moves::is_a(rows, &pool, p, c);
-    tests::judge(n < 256, text::fits(f), declared, typed)
+    let p = tests::byte(b[1]);
+    let c = b[2];
+    let t = b[3];
+    let q = tests::byte(b[4]);
+    let named = state::in_pool(pool, p) & is_declared(declared, nc, c, t) & state::in_pool(pool, q);
+    let typed = moves::is_a(rows, pool, q, t) & moves::is_a(rows, pool, p, c);
+    tests::judge(n < 256, text::fits_as(0x13, b, len), named, typed)
 }
 
-pub fn static_link_of(f: Frame) -> Link
-    ensures { λ r. ⌜ r ≡ staticLinkIn f ⌝ }
+// The link's number. A static link's owner is FF.
+pub fn static_link_of(b: &[u8; 16]) -> u32
+    ensures { λ r. ⌜ r ≡ linkNumber 255 (getD (now (b .entry)) 1 0) (getD (now (b .entry)) 2 0) (getD (now (b .entry)) 3 0) ⌝ }
+    ensures { λ r. ⌜ linkOf r ≡ staticLinkIn (frameOf (now (b .entry)) 16) ⌝ }
 {
-    Link {
-        owner: 255,
-        declared: f.b[1],
-        typ: f.b[2],
-        target: f.b[3],
-    }
+    live::link_number(255, tests::byte(b[1]), tests::byte(b[2]), tests::byte(b[3]))
 }
 
-pub fn object_link_of(f: Frame) -> Link
-    ensures { λ r. ⌜ r ≡ objectLinkIn f ⌝ }
+pub fn object_link_of(b: &[u8; 16]) -> u32
+    ensures { λ r. ⌜ r ≡ linkNumber (getD (now (b .entry)) 1 0) (getD (now (b .entry)) 2 0) (getD (now (b .entry)) 3 0) (getD (now (b .entry)) 4 0) ⌝ }
+    ensures { λ r. ⌜ linkOf r ≡ objectLinkIn (frameOf (now (b .entry)) 16) ⌝ }
 {
-    Link {
-        owner: f.b[1],
-        declared: f.b[2],
-        typ: f.b[3],
-        target: f.b[4],
-    }
+    live::link_number(
+        b[1],
+        tests::byte(b[2]),
+        tests::byte(b[3]),
+        tests::byte(b[4]),
+    )
 }

@@ -35,3 +35,10 @@ pub(crate) fn is_reference(x: u8) -> bool
 {
     x != 255
 }
+
+// A byte that is read off a lent array. Of such an array the list alone is known, and not that its numbers are bytes.
+pub(crate) fn byte(x: u8) -> u8
+    ensures { λ r. ⌜ r ≡ x ⌝ }
+{
+    x
+}

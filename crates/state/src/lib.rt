@@ -1,6 +1,7 @@
 // The run state by value: flat arrays of links, labels and saved contexts with their counts, and the pool. What it means is specs/View.antt.
 ghost use mathlib.Core.Path.{_≡_};
 ghost use Prim.Native.Nat.{_+_, _*_, _≤_};
+ghost use lib.ListN.{length};
 ghost use Rattle.runs.specs.Machine.{label, sameLabel, sameLink};
 ghost use Rattle.runs.specs.Steps.{holds, hasLink, inPool};
 ghost use Rattle.state.specs.View.{labelView, linkView, frameView, linksView, poolFrom, pack, nothingOf};
@@ -128,8 +129,9 @@ pub fn has_link(links: [Link; 256], n: usize, k: Link) -> bool
 }
 
 // Whether r is the number of an object.
-pub fn in_pool(pool: [u8; 256], r: u8) -> bool
-    ensures { λ x. ⌜ x ≡ inPool (poolFrom 0 pool) r ⌝ }
+pub fn in_pool(pool: &[u8; 256], r: u8) -> bool
+    requires { ⌜ length (now pool) ≡ 256 ⌝ }
+    ensures { λ x. ⌜ x ≡ inPool (poolFrom 0 (now (pool .entry))) r ⌝ }
 {
     pool[r as usize] != 255
 }

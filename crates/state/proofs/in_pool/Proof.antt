@@ -5,11 +5,11 @@ use Rattle.state.proofs.Pool.{read-has}
 use Rattle.state.proofs.in_pool.Statement.{statement}
 use Rattle.state.proofs.in_pool.Tie as tie
 
-array-read-result : tie.Need-array-read-result
-array-read-result c = search needs
+element-copy-out-result : tie.Need-element-copy-out-result
+element-copy-out-result c = search needs
 
 returns : tie.Need-returns
-returns c = sym (read-has (c .args .t1) (c .args .r) (search needs))
+returns c = sym (read-has (c .before .args .pool .now) (c .before .args .r) (search needs))
 
 pub in-pool-spec : {M : Type 1} → statement M
-in-pool-spec = tie.close (tie.spec array-read-result returns)
+in-pool-spec = tie.close (tie.spec element-copy-out-result returns)

@@ -1,15 +1,17 @@
 -- `judge_label` puts its tests together.
 -- Assumes nothing.
 use mathlib.Core.Path.{_∙_}
-use lib.ListN.{getD}
 use Rattle.run_frames.specs.Judging.{judgeLabel}
 use borrow.Author.Needs.{needs}
 use Rattle.run_frames.proofs.Pools.{has-place}
 use Rattle.run_frames.proofs.labels.judge_label.Statement.{statement}
 use Rattle.run_frames.proofs.labels.judge_label.Tie as tie
 
-element-copy-out-r : tie.Need-element-copy-out-r
-element-copy-out-r c = search needs
+element-copy-out-byte : tie.Need-element-copy-out-byte
+element-copy-out-byte c = search needs
+
+byte-requires : tie.Need-byte-requires
+byte-requires c κs = search needs
 
 element-copy-out-c : tie.Need-element-copy-out-c
 element-copy-out-c c = search needs
@@ -23,8 +25,8 @@ below-requires c κs = search needs
 is-a-requires : tie.Need-is-a-requires
 is-a-requires c κs = search needs
 
-fits-requires : tie.Need-fits-requires
-fits-requires c κs = search needs
+fits-as-requires : tie.Need-fits-as-requires
+fits-as-requires c κs = search needs
 
 judge-requires : tie.Need-judge-requires
 judge-requires c κs = search needs
@@ -32,19 +34,21 @@ judge-requires c κs = search needs
 returns : tie.Need-returns
 unfolding judgeLabel
 returns c =
-    let a = c .before .before .before .before .before .before .before .before .args in
-    let h = has-place (a .t3) (getD (a .t5 .b) 1 0) (search needs) (search needs) in
-    c .judge .ensures ∙ rw (c .before .fits2 .ensures, c .before .before .is-a .ensures .0 h, c .before .before .before .before .below .ensures, c .before .before .before .before .before .in-pool .ensures)
+    let s = c .before .before .before .before .before .before .before .before in
+    let r = c .before .before .before .before .before .before .byte in
+    let h = has-place (s .args .pool .now) (r .result) (s .pre) (search needs) in
+    c .judge .ensures ∙ rw (c .before .fits-as .ensures, c .before .before .is-a .ensures .0 h, c .before .before .before .below .ensures, c .before .before .before .before .in-pool .ensures, r .ensures)
 
 pub judge-label-spec : {M : Type 1} → statement M
 judge-label-spec =
     tie.close
     (tie.spec
-    element-copy-out-r
+    element-copy-out-byte
+    byte-requires
     element-copy-out-c
     in-pool-requires
     below-requires
     is-a-requires
-    fits-requires
+    fits-as-requires
     judge-requires
     returns)

@@ -1,16 +1,22 @@
 -- `judge_object_link` puts its tests together.
 -- Assumes nothing.
-use Prim.Native.Nat.{ℕ, _<_}
-use mathlib.Core.Path.{_∙_}
-use lib.ListN.{length, getD}
-use Rattle.run_frames.specs.Judging.{judgeObjectLink}
+use mathlib.Core.Path.{_≡_, refl, _∙_}
+use mathlib.Core.Bool.{Bool, true, false, _&&_}
+use lib.ListN.{getD}
+use Prim.Native.Nat.{ℕ}
+use Rattle.frames.specs.Judging.{below}
+use Rattle.run_frames.specs.Judging.{among, fieldAmong, judgeObjectLink}
 use borrow.Author.Needs.{needs}
 use Rattle.run_frames.proofs.Pools.{has-place}
+use Rattle.run_frames.proofs.Declaring.{declared-is}
 use Rattle.run_frames.proofs.links.judge_object_link.Statement.{statement}
 use Rattle.run_frames.proofs.links.judge_object_link.Tie as tie
 
-element-copy-out-p : tie.Need-element-copy-out-p
-element-copy-out-p c = search needs
+element-copy-out-byte : tie.Need-element-copy-out-byte
+element-copy-out-byte c = search needs
+
+byte-requires : tie.Need-byte-requires
+byte-requires c κs = search needs
 
 element-copy-out-c : tie.Need-element-copy-out-c
 element-copy-out-c c = search needs
@@ -18,20 +24,17 @@ element-copy-out-c c = search needs
 element-copy-out-t : tie.Need-element-copy-out-t
 element-copy-out-t c = search needs
 
-element-copy-out-q : tie.Need-element-copy-out-q
-element-copy-out-q c = search needs
+element-copy-out-byte-2 : tie.Need-element-copy-out-byte-2
+element-copy-out-byte-2 c = search needs
+
+byte-requires-2 : tie.Need-byte-requires-2
+byte-requires-2 c κs = search needs
 
 in-pool-requires : tie.Need-in-pool-requires
 in-pool-requires c κs = search needs
 
-below-requires : tie.Need-below-requires
-below-requires c κs = search needs
-
-below-requires-2 : tie.Need-below-requires-2
-below-requires-2 c κs = search needs
-
-some-field-requires : tie.Need-some-field-requires
-some-field-requires c κs = search needs
+is-declared-requires : tie.Need-is-declared-requires
+is-declared-requires c κs = search needs
 
 in-pool-requires-2 : tie.Need-in-pool-requires-2
 in-pool-requires-2 c κs = search needs
@@ -42,37 +45,45 @@ is-a-requires c κs = search needs
 is-a-requires-2 : tie.Need-is-a-requires-2
 is-a-requires-2 c κs = search needs
 
-fits-requires : tie.Need-fits-requires
-fits-requires c κs = search needs
+fits-as-requires : tie.Need-fits-as-requires
+fits-as-requires c κs = search needs
 
 judge-requires : tie.Need-judge-requires
 judge-requires c κs = search needs
 
--- each reference that the frame names has its place in the pool
-place : (c : tie.Start) (i : ℕ) → getD (c .args .t6 .b) i 0 < length (c .args .t4)
-place c i = has-place (c .args .t4) (getD (c .args .t6 .b) i 0) (search needs) (search needs)
+-- the definition asks for class, type and field one behind the other
+in-a-row : (a b c d : Bool) → (a && ((b && c) && d)) ≡ (((a && b) && c) && d)
+in-a-row true b c d = refl
+in-a-row false b c d = refl
 
 returns : tie.Need-returns
 unfolding judgeObjectLink
-returns c =
-    let s = c .before .before .before .before .before .before .before .before .before .before .before .before .before .before .before in
-    c .judge .ensures ∙ rw (c .before .fits2 .ensures, c .before .before .is-a2 .ensures .0 (place s 1), c .before .before .before .before .is-a .ensures .0 (place s 4), c .before .before .before .before .before .before .in-pool2 .ensures, c .before .before .before .before .before .before .before .some-field .ensures, c .before .before .before .before .before .before .before .before .below2 .ensures, c .before .before .before .before .before .before .before .before .before .below .ensures, c .before .before .before .before .before .before .before .before .before .before .in-pool .ensures)
+returns c = λ fields d.
+    let s = c .before .before .before .before .before .before .before .before .before .before .before .before .before in
+    let a = s .args in
+    let x : ℕ → ℕ = λ i. getD (a .b .now) i 0 in
+    let p = c .before .before .before .before .before .before .before .before .before .before .before .byte in
+    let q = c .before .before .before .before .before .before .before .byte2 in
+    let hp = has-place (a .pool .now) (p .result) (s .pre .1 .0) (search needs) in
+    let hq = has-place (a .pool .now) (q .result) (s .pre .1 .0) (search needs) in
+    c .judge .ensures
+    ∙ rw (c .before .fits-as .ensures, c .before .before .is-a2 .ensures .0 hp, c .before .before .before .is-a .ensures .0 hq, c .before .before .before .before .in-pool2 .ensures, c .before .before .before .before .before .is-declared .ensures, declared-is 0 fields d (a .nc) (x 2) (x 3) (s .pre .0), c .before .before .before .before .before .before .in-pool .ensures, p .ensures, q .ensures, in-a-row (among (a .pool .now) (x 1)) (below (a .nc) (x 2)) (below (a .nc) (x 3)) (fieldAmong fields (x 2) (x 3) 0))
 
 pub judge-object-link-spec : {M : Type 1} → statement M
 judge-object-link-spec =
     tie.close
     (tie.spec
-    element-copy-out-p
+    element-copy-out-byte
+    byte-requires
     element-copy-out-c
     element-copy-out-t
-    element-copy-out-q
+    element-copy-out-byte-2
+    byte-requires-2
     in-pool-requires
-    below-requires
-    below-requires-2
-    some-field-requires
+    is-declared-requires
     in-pool-requires-2
     is-a-requires
     is-a-requires-2
-    fits-requires
+    fits-as-requires
     judge-requires
     returns)

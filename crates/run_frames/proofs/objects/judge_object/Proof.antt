@@ -23,8 +23,8 @@ element-copy-out-below c = search needs
 below-requires : tie.Need-below-requires
 below-requires c κs = search needs
 
-fits-requires : tie.Need-fits-requires
-fits-requires c κs = search needs
+fits-as-requires : tie.Need-fits-as-requires
+fits-as-requires c κs = search needs
 
 judge-requires : tie.Need-judge-requires
 judge-requires c κs = search needs
@@ -43,6 +43,6 @@ judge-object-spec =
     is-reference-requires
     element-copy-out-below
     below-requires
-    fits-requires
+    fits-as-requires
     judge-requires
     returns)

@@ -34,7 +34,7 @@ all-references-requires c κs = search needs
 
 returns-3 : tie.Need-returns-3
 unfolding argumentsIn
-returns-3 c = rw (eq-eqb _ _ (c .before .before .if1 .left), le-leb _ _ (c .before .if2 .left)) (c .all-references .ensures)
+returns-3 c = rw (eq-eqb _ _ (c .before .before .before .if1 .left), le-leb _ _ (c .before .before .if2 .left)) (c .all-references .ensures)
 
 pub arguments-spec : {M : Type 1} → statement M
 arguments-spec =

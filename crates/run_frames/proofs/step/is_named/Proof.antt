@@ -9,14 +9,14 @@ use Rattle.run_frames.proofs.step.is_named.Tie as tie
 element-copy-out-k : tie.Need-element-copy-out-k
 element-copy-out-k c = search needs
 
-element-copy-out-a : tie.Need-element-copy-out-a
-element-copy-out-a c = search needs
+element-copy-out-x : tie.Need-element-copy-out-x
+element-copy-out-x c = search needs
 
-element-copy-out-b : tie.Need-element-copy-out-b
-element-copy-out-b c = search needs
+element-copy-out-y : tie.Need-element-copy-out-y
+element-copy-out-y c = search needs
 
-element-copy-out-c : tie.Need-element-copy-out-c
-element-copy-out-c c = search needs
+element-copy-out-z : tie.Need-element-copy-out-z
+element-copy-out-z c = search needs
 
 is-reference-requires : tie.Need-is-reference-requires
 is-reference-requires c κs = search needs
@@ -86,9 +86,9 @@ is-named-spec =
     tie.close
     (tie.spec
     element-copy-out-k
-    element-copy-out-a
-    element-copy-out-b
-    element-copy-out-c
+    element-copy-out-x
+    element-copy-out-y
+    element-copy-out-z
     is-reference-requires
     below-requires
     returns

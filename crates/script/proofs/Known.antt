@@ -3,6 +3,7 @@
 use Prim.Native.Nat.{ℕ, _≤_, _<_}
 use native.Mathlib.Omega.{arith}
 use mathlib.Core.Path.{_≡_, sym, ap, _∙_, subst}
+use mathlib.Core.Logic.{_⊎_, inl, inr}
 use mathlib.Core.List.{List}
 use lib.Dec.{lit<}
 use lib.ListN.{set}
@@ -33,7 +34,7 @@ use Rattle.run_frames.proofs.Named.{Names, names-at, step-judged}
 use Rattle.run_frames.proofs.Elements.{step-kind, has-more, static-link-packed, object-link-packed, label-packed, step-packed}
 use Rattle.lines.proofs.Follows.{kind-is}
 use Rattle.script.specs.Sections.{inSection}
-use Rattle.script.specs.Lists.{withObjects, HasClasses, HoldsLinks, oneLink, withLinks, HasFields, HoldsLabels, oneLabel, withLabels, HasObjects, HoldsSteps, oneStep, noMethod, namedAt, withSteps, HasDeclared}
+use Rattle.script.specs.Lists.{withObjects, HasClasses, HoldsLinks, oneLink, judgeLink, linkIn, linkBy, withLinks, HasFields, HoldsLabels, oneLabel, withLabels, HasObjects, HoldsSteps, oneStep, noMethod, namedAt, withSteps, HasDeclared}
 use Rattle.script.proofs.Loops.{Judges, Kept}
 use Rattle.script.proofs.Stores.{links-lines, links-on, labels-lines, labels-on, steps-count, steps-on}
 
@@ -88,7 +89,7 @@ module _ (nc : ℕ) (few : nc ≤ 127) where
       }
 
 module _ (nc : ℕ) (fs : Fields) (pool rows : List ℕ) where
-  pub static-links-kept : Kept HoldsLinks withLinks (HasFields nc fs pool rows) 0x12 (λ x f. judgeStaticLink nc (x .lines) fs pool rows f) (λ n f. staticLinkOf f) (λ f. Unit {0}) (λ x n f. oneLink x (staticLinkIn f))
+  static-links-kept : Kept HoldsLinks withLinks (HasFields nc fs pool rows) 0x12 (λ x f. judgeStaticLink nc (x .lines) fs pool rows f) (λ n f. staticLinkOf f) (λ f. Unit {0}) (λ x n f. oneLink x (staticLinkIn f))
   unfolding judgeStaticLink
   static-links-kept =
       record {
@@ -98,7 +99,7 @@ module _ (nc : ℕ) (fs : Fields) (pool rows : List ℕ) where
         stores = λ xs x g n f known e z. links-on xs g (static-link-packed f) (has-room (x .lines) 256 _ _ _ z);
       }
 
-  pub object-links-kept : Kept HoldsLinks withLinks (HasFields nc fs pool rows) 0x13 (λ x f. judgeObjectLink nc (x .lines) fs pool rows f) (λ n f. objectLinkOf f) (λ f. Unit {0}) (λ x n f. oneLink x (objectLinkIn f))
+  object-links-kept : Kept HoldsLinks withLinks (HasFields nc fs pool rows) 0x13 (λ x f. judgeObjectLink nc (x .lines) fs pool rows f) (λ n f. objectLinkOf f) (λ f. Unit {0}) (λ x n f. oneLink x (objectLinkIn f))
   unfolding judgeObjectLink
   object-links-kept =
       record {
@@ -107,6 +108,14 @@ module _ (nc : ℕ) (fs : Fields) (pool rows : List ℕ) where
             (λ i. judgeObjectLink (sym (h .start .classes) i) (links-lines xs g i) fs pool rows (packFrame f));
         stores = λ xs x g n f known e z. links-on xs g (object-link-packed f) (has-room (x .lines) 256 _ _ _ z);
       }
+
+  -- both kinds of links' lines
+  abbrev pub LinksKept : ℕ → Type 0
+  LinksKept k = Kept HoldsLinks withLinks (HasFields nc fs pool rows) k (λ x f. judgeLink k nc (x .lines) fs pool rows f) (λ n f. linkBy k f) (λ f. Unit {0}) (λ x n f. oneLink x (linkIn k f))
+
+  pub links-kept : (kind : ℕ) → (kind ≡ 0x12) ⊎ (kind ≡ 0x13) → LinksKept kind
+  links-kept kind (inl e) = subst LinksKept (sym e) static-links-kept
+  links-kept kind (inr e) = subst LinksKept (sym e) object-links-kept
 
 module _ (nc : ℕ) (pool rows : List ℕ) where
   pub labels-kept : Kept HoldsLabels withLabels (HasObjects nc pool rows) 0x14 (λ x f. judgeLabel nc (x .lines) pool rows f) (λ n f. labelOf f) (λ f. Unit {0}) (λ x n f. oneLabel x (labelIn f))

@@ -40,6 +40,10 @@ module _ {A T : Type 0} {Holds : List A → T → Type 0} {grow : Reader → Lis
   pub going-past : {next : Cursor} {x : T} → Going Holds grow Has k s from base next x → nextOf s next k ≡ none → Section Holds grow Has k s from base next x
   going-past g p = record { going = g; past = p }
 
+  -- the same place and value, however they are written
+  pub going-as : {next next′ : Cursor} {x x′ : T} → next ≡ next′ → x ≡ x′ → Going Holds grow Has k s from base next′ x′ → Going Holds grow Has k s from base next x
+  going-as {next} {next′} {x} {x′} e q g = subst (λ (c : Cursor). Going Holds grow Has k s from base c x) (sym e) (subst (Going Holds grow Has k s from base next′) (sym q) g)
+
   module _ {judge : T → Frame → ℕ} {of : ℕ → List ℕ → A} {Known : Frame → Type 0} {store : T → ℕ → Frame → T} (K : Kept Holds grow Has k judge of Known store)
       {next : Cursor} {x : T} (g : Going Holds grow Has k s from base next x) {r : Cut} (d : Found s next k r) {no : ℕ} (j : no ≡ judge x (r .frame))
     where

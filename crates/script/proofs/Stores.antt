@@ -1,12 +1,12 @@
 -- What holds the lists of the sections: empty at first; one line more is one store, or none where a set has its link or label; and together
 -- they are the start.
 -- Assumes nothing.
-use Prim.Native.Nat.{_+_, _≤_, _<_}
+use Prim.Native.Nat.{ℕ, _+_, _≤_, _<_}
 use native.Mathlib.Omega.{arith}
 use mathlib.Core.Path.{_≡_, refl, sym, ap, _∙_}
 use mathlib.Core.Bool.{Bool, true, false, cond}
 use mathlib.Core.List.{List, [], _∷_, _++_, map}
-use lib.ListN.{length, set, length-append}
+use lib.ListN.{length, set, replicate, length-append}
 use Rattle.meaning.specs.Lists.{any}
 use Rattle.runs.specs.Machine as M
 use Rattle.runs.specs.Machine.{sameLink, sameLabel, add, addAll}
@@ -20,20 +20,21 @@ use Rattle.tables.proofs.Pack.{stored, viewed}
 use Rattle.state.specs.declared.Link.{Link}
 use Rattle.state.specs.declared.Label.{Label}
 use Rattle.state.specs.View.{noLink, noLabel, linkView, labelView, frameView, packLink, packLabel, packContexts, packFrames, packPool, pack}
+use Rattle.state.proofs.Pool.{pack-long}
 use Rattle.steps.specs.declared.Step.{Step}
 use Rattle.steps.specs.declared.Steps.{Steps}
 use Rattle.steps.specs.View.{zeroStep}
 use Rattle.steps.specs.Pack.{packStep, packSteps}
-use Rattle.script.specs.declared.link_lines.LinkLines.{LinkLines}
+use Rattle.run_frames.specs.Pools.{Has}
 use Rattle.script.specs.declared.label_lines.LabelLines.{LabelLines}
-use Rattle.script.specs.Lists.{noLinks, packLinks, HoldsLinks, oneLink, noLabels, packLabels, HoldsLabels, oneLabel, noSteps, HoldsSteps, oneStep}
+use Rattle.script.specs.Lists.{LinkLines, linksIn, packLinks, HoldsLinks, oneLink, noLabels, packLabels, HoldsLabels, oneLabel, noSteps, HoldsSteps, oneStep}
 use Rattle.script.specs.Answers.{startedWith}
 
 -- ---- empty
 
-pub links-none : noLinks ≡ packLinks []
+pub links-none : {row : List ℕ} → row ≡ replicate 256 0 → HoldsLinks [] (linksIn row (record { n = 0; lines = 0 }))
 unfolding packLinks addAll pad
-links-none = refl
+links-none e = ap (λ (row : List ℕ). linksIn row (record { n = 0; lines = 0 })) e
 
 pub labels-none : noLabels ≡ packLabels []
 unfolding packLabels addAll pad
@@ -61,6 +62,11 @@ module _ {A : Type 0} (same : A → A → Bool) where
 
 one-longer : {A : Type 0} (xs : List A) (y : A) → length xs + 1 ≡ length (xs ++ (y ∷ []))
 one-longer xs y = sym (length-append xs (y ∷ []))
+
+-- ---- objects: the pool has a place for each reference
+
+pub objects-long : {os : List M.Object} {pool : List ℕ} → Has os pool → length pool ≡ 256
+objects-long {os} h = ap length (h .packed) ∙ pack-long os
 
 -- ---- links
 
@@ -154,6 +160,6 @@ module _ (xs : List Placed) where
 
 -- ---- the start
 
-pub start-packed : (R : Reader) → startedWith (R .entry) (packPool (R .objects)) (packLinks (R .links)) (packLabels (R .labels)) ≡ pack (startOf R)
+pub start-packed : (R : Reader) → startedWith (R .entry) (packPool (R .objects)) (packLinks (R .links) .at) (packLinks (R .links) .n) (packLabels (R .labels)) ≡ pack (startOf R)
 unfolding packLinks packLabels pack startOf packFrames packContexts pad
 start-packed R = refl

@@ -9,26 +9,26 @@ use lib.ListN.{length}
 use borrow.Author.Tests.{le-leb, lt-leb, eq-eqb, ne-eqb}
 use Rattle.meaning.specs.Lists.{all}
 use Rattle.meaning.specs.Text.{linesOf}
-use Rattle.meaning.specs.Tables.{Package}
+use Rattle.meaning.specs.Tables.{Package, fieldClass, fieldType}
 use Rattle.meaning.specs.Reading.{answer}
-use Rattle.runs.specs.Machine as M
 use Rattle.runs.specs.Script.{Reader, isNone, readLines, noReader, readScript}
 use Rattle.tables.specs.declared.Classes.{Classes}
 use Rattle.tables.specs.declared.Methods.{Methods}
 use Rattle.tables.specs.declared.Tables.{Tables}
-use Rattle.tables.specs.View.{view}
+use Rattle.tables.specs.View.{view, zeroField}
 use Rattle.tables.specs.Pack.{packClasses, packFields, packMethods, pack}
 use Rattle.tables.specs.Held.{Held}
+use Rattle.tables.proofs.Views.{held-fields}
 use Rattle.steps.specs.declared.Steps.{Steps}
 use Rattle.steps.specs.Pack.{packSteps}
 use Rattle.moves.specs.Below.{Supers}
+use Rattle.run_frames.specs.Declares.{Small}
 use Rattle.run_frames.specs.Pools.{Has}
 use Rattle.lines.specs.declared.Cursor.{Cursor}
 use Rattle.script.specs.declared.entry.Entry.{Entry}
-use Rattle.script.specs.declared.link_lines.LinkLines.{LinkLines}
 use Rattle.script.specs.declared.label_lines.LabelLines.{LabelLines}
 use Rattle.script.specs.Sections.{opened, refusal, ending, EntryRead, Section, Ended}
-use Rattle.script.specs.Lists.{withObjects, HasClasses, HoldsLinks, SomeLinks, withLinks, HasFields, HoldsLabels, withLabels, HasObjects, HoldsSteps, withSteps, HasDeclared}
+use Rattle.script.specs.Lists.{withObjects, HasClasses, LinkLines, withLinks, HasFields, BothRead, HoldsLabels, withLabels, HasObjects, HoldsSteps, withSteps, HasDeclared}
 use Rattle.script.specs.Answers.{startedWith, scriptOf}
 use Rattle.script.proofs.Order.{advance}
 use Rattle.script.proofs.Stores.{start-packed}
@@ -67,29 +67,35 @@ module _ {t : Tables} (held : Held t) where
   pub few-classes : t .classes .n ≤ 127
   few-classes = rw (← nc-is) (held .good .few-classes)
 
--- the links behind the lines 12
-pub links-so-far : {Has : Package → Reader → Type 0} {k : ℕ} {s : List ℕ} {from next : Cursor} {ks : List M.Link} {x : LinkLines} → Section HoldsLinks withLinks Has k s from ks next x → SomeLinks x
-links-so-far a = record { list = a .going .list; holds = a .going .holds }
+  -- the fields' classes and types have a row and a bit
+  pub fields-small : Small (t .fields)
+  unfolding fieldClass fieldType
+  fields-small =
+      let f = held-fields t held in
+      record {
+        count = rw (f .count) (f .few);
+        class = λ i h. let l : i < length (view t .fields) = rw (← f .count) h in rw (f .at i zeroField l) (omega (arith, held .good .fields i l .class, held .good .few-classes));
+        typ = λ i h. let l : i < length (view t .fields) = rw (← f .count) h in rw (f .at i zeroField l) (omega (arith, held .good .fields i l .type, held .good .few-classes));
+      }
 
 module _ {t : Tables} (held : Held t) {rows : List ℕ} (supers : Supers (view t) rows) {s : List ℕ} (small : length s ≤ 32768) {e : Entry} (entry : EntryRead (t .methods .n) s e)
-    {c₁ c₂ c₃ c₄ c₅ end : Cursor} {pool : List ℕ} {x₂ x₃ : LinkLines} {x₄ : LabelLines} {x₅ : Steps}
+    {c₁ c₂ c₃ c₄ end : Cursor} {pool : List ℕ} {x₂ : LinkLines} {x₃ : LabelLines} {x₄ : Steps}
     (o : Section Has withObjects (HasClasses (t .classes .n)) 0x11 s (e .next) [] c₁ pool)
-    (a : Section HoldsLinks withLinks (HasFields (t .classes .n) (t .fields) pool rows) 0x12 s c₁ [] c₂ x₂)
-    (b : Section HoldsLinks withLinks (HasFields (t .classes .n) (t .fields) pool rows) 0x13 s c₂ (a .going .list) c₃ x₃)
-    (l : Section HoldsLabels withLabels (HasObjects (t .classes .n) pool rows) 0x14 s c₃ [] c₄ x₄)
-    (k : Section HoldsSteps withSteps (HasDeclared (t .classes .n) (t .fields) (t .methods)) 0x20 s c₄ [] c₅ x₅)
-    (x : Ended s c₅ end)
+    (b : BothRead (t .classes .n) (t .fields) pool rows s c₁ c₂ x₂)
+    (l : Section HoldsLabels withLabels (HasObjects (t .classes .n) pool rows) 0x14 s c₂ [] c₃ x₃)
+    (k : Section HoldsSteps withSteps (HasDeclared (t .classes .n) (t .fields) (t .methods)) 0x20 s c₃ [] c₄ x₄)
+    (x : Ended s c₄ end)
   where
     lists : Reader
-    lists = record { section = 0x20; entry = e .method; objects = o .going .list; links = b .going .list; labels = l .going .list; steps = k .going .list }
+    lists = record { section = 0x20; entry = e .method; objects = o .going .list; links = b .owned .going .list; labels = l .going .list; steps = k .going .list }
 
     whole : readScript (view t) s ≡ ending end lists
     unfolding lists all
     whole =
         let P = view t in
         let R₁ = withObjects (opened (e .method)) (o .going .list) in
-        let R₂ = withLinks R₁ (a .going .list) in
-        let R₃ = withLinks R₁ (b .going .list) in
+        let R₂ = withLinks R₁ (b .statics .going .list) in
+        let R₃ = withLinks R₁ (b .owned .going .list) in
         let R₄ = withLabels R₃ (l .going .list) in
         let objects : HasObjects (t .classes .n) pool rows P R₁ = record { classes = nc-is held; objects = o .going .holds; supers = supers } in
         let fields : HasFields (t .classes .n) (t .fields) pool rows P R₁ = record { start = objects; fields = fields-are held } in
@@ -98,21 +104,21 @@ module _ {t : Tables} (held : Held t) {rows : List ℕ} (supers : Supers (view t
         ∙ advance P s (e .next) (opened (e .method)) 0x10 0x11 (lit≤ tt) (lit≤ tt) (lit< tt) tt (λ h. absurd (omega arith))
         ∙ o .going .same P (opened (e .method)) (nc-is held)
         ∙ advance P s c₁ R₁ 0x11 0x12 (lit≤ tt) (lit≤ tt) (lit< tt) tt (λ _. o .past)
-        ∙ a .going .same P R₁ fields
-        ∙ advance P s c₂ R₂ 0x12 0x13 (lit≤ tt) (lit≤ tt) (lit< tt) tt (λ _. a .past)
-        ∙ b .going .same P R₁ fields
-        ∙ advance P s c₃ R₃ 0x13 0x14 (lit≤ tt) (lit≤ tt) (lit< tt) tt (λ _. b .past)
+        ∙ b .statics .going .same P R₁ fields
+        ∙ advance P s (b .between) R₂ 0x12 0x13 (lit≤ tt) (lit≤ tt) (lit< tt) tt (λ _. b .statics .past)
+        ∙ b .owned .going .same P R₁ fields
+        ∙ advance P s c₂ R₃ 0x13 0x14 (lit≤ tt) (lit≤ tt) (lit< tt) tt (λ _. b .owned .past)
         ∙ l .going .same P R₃ (record { classes = nc-is held; objects = o .going .holds; supers = supers })
-        ∙ advance P s c₄ R₄ 0x14 0x20 (lit≤ tt) (lit≤ tt) (lit< tt) tt (λ _. l .past)
+        ∙ advance P s c₃ R₄ 0x14 0x20 (lit≤ tt) (lit≤ tt) (lit< tt) tt (λ _. l .past)
         ∙ k .going .same P R₄ (record { good = held .good; classes = nc-is held; fields = fields-are held; methods = methods-are held })
         ∙ x .same P lists
 
     pub whole-refused : (end .no ≡ 0 → ⊥) → readScript (view t) s ≡ refusal end
     whole-refused z = whole ∙ rw (ne-eqb (end .no) 0 z)
 
-    pub whole-read : end .no ≡ 0 → record { no = 0; line = 0; start = startedWith (e .method) pool x₃ x₄; steps = x₅ } ≡ scriptOf (readScript (view t) s)
+    pub whole-read : end .no ≡ 0 → record { no = 0; line = 0; start = startedWith (e .method) pool (x₂ .at) (x₂ .n) x₃; steps = x₄ } ≡ scriptOf (readScript (view t) s)
     unfolding lists
     whole-read z =
-        (λ i. record { no = 0; line = 0; start = startedWith (e .method) (o .going .holds .packed i) (b .going .holds i) (l .going .holds i); steps = k .going .holds i })
+        (λ i. record { no = 0; line = 0; start = startedWith (e .method) (o .going .holds .packed i) (b .owned .going .holds i .at) (b .owned .going .holds i .n) (l .going .holds i); steps = k .going .holds i })
         ∙ (λ i. record { no = 0; line = 0; start = start-packed lists i; steps = packSteps (k .going .list) })
         ∙ rw (whole, eq-eqb (end .no) 0 z)

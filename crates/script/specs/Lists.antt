@@ -4,6 +4,7 @@ use Prim.Native.Nat.{ℕ, _+_}
 use mathlib.Core.Path.{_≡_}
 use mathlib.Core.Bool.{cond}
 use mathlib.Core.List.{List, [], map}
+use lib.Dec.{eqb}
 use lib.ListN.{length, getD, set, replicate}
 use Rattle.meaning.specs.Tables.{Package}
 use Rattle.meaning.specs.Good.{Good}
@@ -27,10 +28,15 @@ use Rattle.steps.specs.declared.Step.{Step}
 use Rattle.steps.specs.declared.Steps.{Steps}
 use Rattle.steps.specs.View.{zeroStep}
 use Rattle.steps.specs.Pack.{packSteps}
+use Rattle.lines.specs.declared.Cursor.{Cursor}
+use Rattle.live.specs.Live.{linkOf}
 use Rattle.moves.specs.Below.{Supers}
 use Rattle.run_frames.specs.declared.step.Named.{Named}
 use Rattle.run_frames.specs.Pools.{Has}
-use Rattle.script.specs.declared.link_lines.LinkLines.{LinkLines}
+use Rattle.run_frames.specs.Judging.{judgeStaticLink, judgeObjectLink}
+use Rattle.run_frames.specs.Elements.{staticLinkIn, staticLinkOf, objectLinkIn, objectLinkOf}
+use Rattle.script.specs.declared.link_lines.LinkCounts.{LinkCounts}
+use Rattle.script.specs.Sections.{Section}
 use Rattle.script.specs.declared.label_lines.LabelLines.{LabelLines}
 
 -- ---- objects
@@ -41,13 +47,19 @@ withObjects R xs = record { section = R .section; entry = R .entry; objects = xs
 abbrev pub HasClasses : ℕ → Package → Reader → Type 0
 HasClasses nc P R = length (P .classes) ≡ nc
 
--- ---- links: the set, and the count of the lines
+-- ---- links: the set, with its count, and how many lines there were, repeated ones too
+
+pub record LinkLines : Type 0 where
+  pub at : List Link
+  pub n : ℕ
+  pub lines : ℕ
+
+-- what a row of numbers means, with the counts
+abbrev pub linksIn : List ℕ → LinkCounts → LinkLines
+linksIn row x = record { at = map linkOf row; n = x .n; lines = x .lines }
 
 abbrev pub withLinks : Reader → List M.Link → Reader
 withLinks R xs = record { section = R .section; entry = R .entry; objects = R .objects; links = xs; labels = R .labels; steps = R .steps }
-
-abbrev pub noLinks : LinkLines
-noLinks = record { at = replicate 256 noLink; n = 0; lines = 0 }
 
 unfoldable pub packLinks : List M.Link → LinkLines
 packLinks xs = record { at = pad 256 noLink (map packLink (addAll sameLink xs [])); n = length (addAll sameLink xs []); lines = length xs }
@@ -66,6 +78,19 @@ oneLink x k =
     (record { at = x .at; n = x .n; lines = x .lines + 1 })
     (record { at = set (x .at) (x .n) k; n = x .n + 1; lines = x .lines + 1 })
 
+-- a line is of the kind 12, with a static field, or else 13, with an instance field
+abbrev pub staticBy : ℕ → ℕ
+staticBy kind = cond (eqb kind 0x12) 1 0
+
+abbrev pub judgeLink : ℕ → ℕ → ℕ → Fields → List ℕ → List ℕ → Frame → ℕ
+judgeLink kind nc n fields pool rows f = cond (eqb kind 0x12) (judgeStaticLink nc n fields pool rows f) (judgeObjectLink nc n fields pool rows f)
+
+abbrev pub linkIn : ℕ → Frame → Link
+linkIn kind f = cond (eqb kind 0x12) (staticLinkIn f) (objectLinkIn f)
+
+abbrev pub linkBy : ℕ → List ℕ → M.Link
+linkBy kind f = cond (eqb kind 0x12) (staticLinkOf f) (objectLinkOf f)
+
 -- the package's classes and rows, and the objects that are read
 pub record HasObjects (nc : ℕ) (pool rows : List ℕ) (P : Package) (R : Reader) : Type 0 where
   pub classes : length (P .classes) ≡ nc
@@ -75,6 +100,13 @@ pub record HasObjects (nc : ℕ) (pool rows : List ℕ) (P : Package) (R : Reade
 pub record HasFields (nc : ℕ) (fs : Fields) (pool rows : List ℕ) (P : Package) (R : Reader) : Type 0 where
   pub start : HasObjects nc pool rows P R
   pub fields : fs ≡ packFields (P .fields)
+
+-- the lines 12 from none on, and behind them the lines 13
+pub record BothRead (nc : ℕ) (fs : Fields) (pool rows s : List ℕ) (from next : Cursor) (x : LinkLines) : Type 0 where
+  pub between : Cursor
+  pub static-links : LinkLines
+  pub statics : Section HoldsLinks withLinks (HasFields nc fs pool rows) 0x12 s from [] between static-links
+  pub owned : Section HoldsLinks withLinks (HasFields nc fs pool rows) 0x13 s between (statics .going .list) next x
 
 -- ---- labels, likewise
 

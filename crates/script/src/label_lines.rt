@@ -4,6 +4,7 @@ use state::Label;
 ghost use mathlib.Core.Path.{_≡_};
 ghost use Prim.Native.Nat.{_≤_, _<_};
 ghost use mathlib.Core.List.{[]};
+ghost use lib.ListN.{length};
 ghost use Rattle.text.specs.Values.{digitTable};
 ghost use Rattle.lines.specs.Cursors.{Within};
 ghost use Rattle.script.specs.Sections.{Section};
@@ -56,30 +57,31 @@ pub(crate) fn read_labels(
     s: &[u8],
     from: Cursor,
     nc: usize,
-    pool: [u8; 256],
+    pool: &[u8; 256],
     rows: &[u64; 254],
 ) -> LabelsRead
     requires { ⌜ Within (now s) from ⌝ }
     requires { ⌜ now digits ≡ digitTable ⌝ }
-    ensures { λ r. ⌜ Section HoldsLabels withLabels (HasObjects nc pool (now (rows .entry))) 0x14 (now (s .entry)) from [] (r .next) (r .labels) ⌝ }
+    requires { ⌜ length (now pool) ≡ 256 ⌝ }
+    ensures { λ r. ⌜ Section HoldsLabels withLabels (HasObjects nc (now (pool .entry)) (now (rows .entry))) 0x14 (now (s .entry)) from [] (r .next) (r .labels) ⌝ }
 {
     let mut x = no_labels();
     let mut next = from;
     loop {
-        let cut = lines::line_by(digits, s, next, 0x14);
-        let here = cut.ok;
+        let mut f = [0u8; 16];
+        let line = lines::line_into(digits, s, next, 0x14, &mut f);
+        let here = line.ok;
         if !here {
             return LabelsRead { next, labels: x };
         }
-        let f = cut.frame;
         let n = x.lines;
-        let no = run_frames::labels::judge_label(nc, n, pool, rows, f);
+        let no = run_frames::labels::judge_label(nc, n, pool, rows, &f, line.n);
         if no != 0 {
             next.no = no;
             return LabelsRead { next, labels: x };
         }
-        let l = run_frames::labels::label_of(f);
+        let l = run_frames::labels::label_of(&f);
         x = one_label(x, l);
-        next = lines::moved(next, cut.next);
+        next = lines::moved(next, line.next);
     }
 }

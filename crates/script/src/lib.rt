@@ -3,14 +3,16 @@
 // array alone. A line that is not of its section ends it, and is left to the sections behind it; behind a refusal they read nothing and
 // hand it on.
 use crate::label_lines::LabelLines;
-use crate::link_lines::LinkLines;
 use state::State;
 use steps::Steps;
 use tables::Tables;
 ghost use mathlib.Core.Path.{_≡_};
+ghost use mathlib.Core.List.{map};
+ghost use lib.ListN.{length};
 ghost use Rattle.runs.specs.Script.{readScript};
 ghost use Rattle.tables.specs.View.{view};
 ghost use Rattle.tables.specs.Held.{Held};
+ghost use Rattle.live.specs.Live.{linkOf};
 ghost use Rattle.moves.specs.Below.{Supers};
 ghost use Rattle.script.specs.Answers.{scriptOf, refusedWith, startedWith};
 
@@ -43,14 +45,15 @@ fn refused(no: u8, line: usize) -> Script
 }
 
 // The entry method, over the objects, links and labels of the start lines.
-fn started(method: u8, pool: [u8; 256], links: LinkLines, labels: LabelLines) -> State
-    ensures { λ r. ⌜ r ≡ startedWith method pool links labels ⌝ }
+fn started(method: u8, pool: [u8; 256], links: &[u32; 256], n: usize, labels: LabelLines) -> State
+    requires { ⌜ length (now links) ≡ 256 ⌝ }
+    ensures { λ r. ⌜ r ≡ startedWith method pool (map linkOf (now (links .entry))) n labels ⌝ }
 {
     let mut r = state::empty(method);
     r.pool = pool;
-    let ks = links.at;
+    let ks = live::structs::links_from(links);
     r.links = ks;
-    r.nlinks = links.n;
+    r.nlinks = n;
     let ls = labels.at;
     r.labels = ls;
     r.n = labels.n;
@@ -72,19 +75,17 @@ pub fn read(s: &[u8], t: Tables, rows: &[u64; 254]) -> Script
     let e = entry::read_entry(&digits, s, methods.n);
     let o = object_lines::read_objects(&digits, s, e.next, nc);
     let pool = o.pool;
-    let none = link_lines::no_links();
-    let a = link_lines::read_static_links(&digits, s, o.next, none, nc, fields, pool, rows);
-    let some = a.links;
-    let b = link_lines::read_object_links(&digits, s, a.next, some, nc, fields, pool, rows);
-    let l = label_lines::read_labels(&digits, s, b.next, nc, pool, rows);
+    let mut links = [0u32; 256];
+    let b = link_lines::read_links(&digits, s, o.next, &mut links, nc, fields, &pool, rows);
+    let l = label_lines::read_labels(&digits, s, b.next, nc, &pool, rows);
     let k = step_lines::read_steps(&digits, s, l.next, nc, fields, methods);
     let end = lines::last_line(&digits, s, k.next, 0x2F, 50);
     if end.no != 0 {
         return refused(end.no, end.line + 1);
     }
-    let links = b.links;
+    let counts = b.counts;
     let labels = l.labels;
-    let start = started(e.method, pool, links, labels);
+    let start = started(e.method, pool, &links, counts.n, labels);
     let steps = k.steps;
     Script {
         no: 0,

@@ -31,19 +31,19 @@ pub(crate) fn read_objects(digits: &[u32; 512], s: &[u8], from: Cursor, nc: usiz
     let mut pool = no_objects();
     let mut next = from;
     loop {
-        let cut = lines::line_by(digits, s, next, 0x11);
-        let here = cut.ok;
+        let mut f = [0u8; 16];
+        let line = lines::line_into(digits, s, next, 0x11, &mut f);
+        let here = line.ok;
         if !here {
             return ObjectsRead { next, pool };
         }
-        let f = cut.frame;
-        let no = run_frames::objects::judge_object(nc, pool, f);
+        let no = run_frames::objects::judge_object(nc, &pool, &f, line.n);
         if no != 0 {
             next.no = no;
             return ObjectsRead { next, pool };
         }
-        let r = lines::wide(f.b[1]);
-        pool[r] = f.b[2];
-        next = lines::moved(next, cut.next);
+        let r = lines::wide(f[1]);
+        pool[r] = f[2];
+        next = lines::moved(next, line.next);
     }
 }

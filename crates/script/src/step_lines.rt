@@ -66,26 +66,26 @@ pub(crate) fn read_steps(
     let mut x = no_steps();
     let mut next = from;
     loop {
-        let cut = lines::line_by(digits, s, next, 0x20);
+        let mut f = [0u8; 16];
+        let cut = lines::line_into(digits, s, next, 0x20, &mut f);
         let here = cut.ok;
         if !here {
             return StepsRead { next, steps: x };
         }
-        let f = cut.frame;
         let n = x.n;
-        let i = lines::wide(f.b[1]);
-        let j = lines::wide(f.b[2]);
+        let i = lines::wide(f[1]);
+        let j = lines::wide(f[2]);
         let field = fields.at[i];
         let called = methods.at[i];
         let runs = methods.at[j];
         let d = named(nc, fields.n, methods.n, field, called, runs);
-        let no = run_frames::step::judge_step(d, n, f);
+        let no = run_frames::step::judge_step(d, n, &f, cut.n);
         if no != 0 {
             next.no = no;
             return StepsRead { next, steps: x };
         }
         let line = next.line + 1;
-        x.at[n] = run_frames::step::step_of(f, line as u16);
+        x.at[n] = run_frames::step::step_of(&f, line as u16);
         x.n = n + 1;
         next = lines::moved(next, cut.next);
     }

@@ -9,9 +9,12 @@ use Rattle.script.proofs.started.Tie as tie
 empty-requires : tie.Need-empty-requires
 empty-requires c κs = search needs
 
+links-from-requires : tie.Need-links-from-requires
+links-from-requires c κs = search needs
+
 returns : tie.Need-returns
 unfolding pack packContexts pad
-returns c = rw (c .before .before .empty .ensures)
+returns c = rw (c .before .before .empty .ensures, c .before .links-from .ensures (c .before .before .before .pre))
 
 pub started-spec : {M : Type 1} → statement M
-started-spec = tie.close (tie.spec empty-requires returns)
+started-spec = tie.close (tie.spec empty-requires links-from-requires returns)

@@ -8,6 +8,7 @@ use lib.ListN.{length}
 use borrow.Author.Needs.{needs}
 use borrow.Author.Tests.{not-true, not-false}
 use Rattle.meaning.specs.Kinds.{rowOf}
+use Rattle.text.proofs.Cuts.{said-cut}
 use Rattle.lines.proofs.Looks.{found, missing, moved-within}
 use Rattle.run_frames.specs.Judging.{judgeLabel}
 use Rattle.run_frames.proofs.Asked.{has-room}
@@ -31,18 +32,18 @@ no-labels-requires c κs = search needs
 loop-holds : tie.Need-loop-holds Inv-loop μ-loop
 loop-holds c = going-start (c .no-labels .ensures ∙ labels-none) (c .before .before .pre .0)
 
-line-by-requires : tie.Need-line-by-requires Inv-loop μ-loop
+line-into-requires : tie.Need-line-into-requires Inv-loop μ-loop
 unfolding rowOf
-line-by-requires c κs = (c .before .before .before .pre .1, refl)
+line-into-requires c κs = (c .before .before .before .before .pre .1 .0, refl)
 
 returns : tie.Need-returns Inv-loop μ-loop
-returns c = going-past (c .before .before .loop .inv) (missing _ _ _ (c .before .line-by .ensures) (not-true _ (c .if1 .taken)))
+returns c = going-past (c .before .before .before .loop .inv) (missing _ _ _ (said-cut (c .before .line-into .ensures)) (not-true _ (c .if1 .taken)))
 
 judge-label-requires : tie.Need-judge-label-requires Inv-loop μ-loop
-judge-label-requires c κs = search needs
+judge-label-requires c κs = c .before .before .before .before .before .before .before .pre .1 .1
 
 returns-2 : tie.Need-returns-2 Inv-loop μ-loop
-returns-2 c = line-refused (labels-kept _ _ _) (c .before .before .before .before .before .loop .inv) (found _ _ _ (c .before .before .before .before .line-by .ensures) (not-false _ (c .before .before .before .if1 .left))) (c .before .judge-label .ensures) (c .if2 .taken)
+returns-2 c = line-refused (labels-kept _ _ _) (c .before .before .before .before .before .before .loop .inv) (found _ _ _ (said-cut (c .before .before .before .before .line-into .ensures)) (not-false _ (c .before .before .before .if1 .left))) (c .before .judge-label .ensures) (c .if2 .taken)
 
 label-of-requires : tie.Need-label-of-requires Inv-loop μ-loop
 label-of-requires c κs = search needs
@@ -50,21 +51,21 @@ label-of-requires c κs = search needs
 one-label-requires : tie.Need-one-label-requires Inv-loop μ-loop
 unfolding judgeLabel
 one-label-requires c κs =
-    let g = c .before .before .before .before .before .before .loop .inv in
-    (labels-count (g .list) (g .holds), has-room _ 32 _ _ _ (sym (c .before .before .judge-label .ensures) ∙ c .before .if2 .left))
+    let g = c .before .before .before .before .before .before .before .before .loop .inv in
+    (labels-count (g .list) (g .holds), has-room _ 32 _ _ _ (sym (c .before .before .before .judge-label .ensures) ∙ c .before .before .if2 .left))
 
 moved-requires : tie.Need-moved-requires Inv-loop μ-loop
-moved-requires c κs = let d = found _ _ _ (c .before .before .before .before .before .before .line-by .ensures) (not-false _ (c .before .before .before .before .before .if1 .left)) in omega (arith, d .taken .next, c .before .before .before .before .before .before .before .loop .inv .within .line)
+moved-requires c κs = let d = found _ _ _ (said-cut (c .before .before .before .before .before .before .before .line-into .ensures)) (not-false _ (c .before .before .before .before .before .before .if1 .left)) in omega (arith, d .taken .next, c .before .before .before .before .before .before .before .before .before .loop .inv .within .line)
 
 loop-less : tie.Need-loop-less Inv-loop μ-loop
 loop-less c =
-    let d = found _ _ _ (c .before .before .before .before .before .before .before .line-by .ensures) (not-false _ (c .before .before .before .before .before .before .if1 .left)) in
-    rw (c .moved .ensures) (omega (arith, moved-within (c .before .before .before .before .before .before .before .before .loop .inv .within) d .at, d .taken .next))
+    let d = found _ _ _ (said-cut (c .before .before .before .before .before .before .before .before .line-into .ensures)) (not-false _ (c .before .before .before .before .before .before .before .if1 .left)) in
+    rw (c .moved .ensures) (omega (arith, moved-within (c .before .before .before .before .before .before .before .before .before .before .loop .inv .within) d .at, d .taken .next))
 
 loop-again : tie.Need-loop-again Inv-loop μ-loop
 loop-again c =
     rw (c .moved .ensures, c .before .one-label .ensures, c .before .before .label-of .ensures)
-    (line-on (labels-kept _ _ _) (c .before .before .before .before .before .before .before .before .loop .inv) (found _ _ _ (c .before .before .before .before .before .before .before .line-by .ensures) (not-false _ (c .before .before .before .before .before .before .if1 .left))) (c .before .before .before .before .judge-label .ensures) tt (c .before .before .before .if2 .left))
+    (line-on (labels-kept _ _ _) (c .before .before .before .before .before .before .before .before .before .before .loop .inv) (found _ _ _ (said-cut (c .before .before .before .before .before .before .before .before .line-into .ensures)) (not-false _ (c .before .before .before .before .before .before .before .if1 .left))) (c .before .before .before .before .before .judge-label .ensures) tt (c .before .before .before .before .if2 .left))
 
 pub read-labels-spec : {M : Type 1} → statement M
 read-labels-spec =
@@ -74,7 +75,7 @@ read-labels-spec =
     μ-loop
     no-labels-requires
     loop-holds
-    line-by-requires
+    line-into-requires
     returns
     judge-label-requires
     returns-2

@@ -1,34 +1,45 @@
--- `one_link` counts the line, and stores the link where it is not there yet.
+-- `one_link` counts the line, and stores the link's number where the link is not there yet.
 -- Assumes nothing.
+use Prim.Native.Nat.{_≤_}
 use native.Mathlib.Omega.{arith}
 use mathlib.Core.Path.{sym, _∙_}
+use lib.ListN.{length, length-set}
+use Rattle.live.specs.Live.{linkOf}
+use Rattle.live.proofs.Rows.{map-set}
 use Rattle.script.specs.Lists.{oneLink}
+use borrow.Author.Needs.{needs}
 use Rattle.script.proofs.link_lines.one_link.Statement.{statement}
 use Rattle.script.proofs.link_lines.one_link.Tie as tie
 
-add-y : tie.Need-add-y
-add-y c = omega (arith, c .before .before .pre .1)
+add-lines : tie.Need-add-lines
+add-lines c = search needs
 
 has-link-requires : tie.Need-has-link-requires
-has-link-requires c κs = omega (arith, c .before .before .pre .0, c .before .before .pre .1)
+has-link-requires c κs = search needs
+
+-- the row is long enough for its links
+long : (c : tie.After-has-link) → c .before .before .before .args .x .n ≤ length (c .before .before .before .args .links .now)
+long c = omega (arith, c .before .before .before .pre .0, c .before .before .before .pre .1 .0, c .before .before .before .pre .1 .1)
 
 returns : tie.Need-returns
 unfolding oneLink
-returns c = rw (sym (c .before .has-link .ensures) ∙ c .if1 .taken)
+returns c = (rw (sym (c .before .has-link .ensures (long (c .before))) ∙ c .if1 .taken), c .before .before .before .before .pre .0)
 
-mul-k : tie.Need-mul-k
-mul-k c = omega (arith, c .before .before .before .before .pre .0, c .before .before .before .before .pre .1)
+mul-links : tie.Need-mul-links
+mul-links c = search needs
 
-element-set-from-k : tie.Need-element-set-from-k
-element-set-from-k c = omega (arith, c .before .before .before .before .pre .0, c .before .before .before .before .pre .1)
+element-write-links : tie.Need-element-write-links
+element-write-links c = search needs
 
-add-y-2 : tie.Need-add-y-2
-add-y-2 c = omega (arith, c .before .before .before .before .pre .0, c .before .before .before .before .pre .1)
+add-t8 : tie.Need-add-t8
+add-t8 c = search needs
 
 returns-2 : tie.Need-returns-2
 unfolding oneLink
-returns-2 c = rw (sym (c .before .has-link .ensures) ∙ c .if1 .left)
+returns-2 c =
+    (rw (sym (c .before .has-link .ensures (long (c .before))) ∙ c .if1 .left, map-set linkOf (c .before .before .before .before .args .links .now) (c .before .before .before .before .args .x .n) (c .before .before .before .before .args .k)), length-set (c .before .before .before .before .args .links .now) (c .before .before .before .before .args .x .n) (c .before .before .before .before .args .k) ∙ c .before .before .before .before .pre .0)
 
 pub one-link-spec : {M : Type 1} → statement M
 one-link-spec =
-    tie.close (tie.spec add-y has-link-requires returns mul-k element-set-from-k add-y-2 returns-2)
+    tie.close
+    (tie.spec add-lines has-link-requires returns mul-links element-write-links add-t8 returns-2)

@@ -8,6 +8,7 @@ use lib.ListN.{length}
 use borrow.Author.Needs.{needs}
 use borrow.Author.Tests.{not-true, not-false}
 use Rattle.meaning.specs.Kinds.{rowOf}
+use Rattle.text.proofs.Cuts.{said-cut}
 use Rattle.lines.proofs.Looks.{found, missing, moved-within}
 use Rattle.run_frames.specs.Judging.{judgeStep}
 use Rattle.run_frames.proofs.Asked.{has-room}
@@ -31,21 +32,21 @@ no-steps-requires c κs = search needs
 loop-holds : tie.Need-loop-holds Inv-loop μ-loop
 loop-holds c = going-start (c .no-steps .ensures ∙ steps-none) (c .before .before .pre .0)
 
-line-by-requires : tie.Need-line-by-requires Inv-loop μ-loop
+line-into-requires : tie.Need-line-into-requires Inv-loop μ-loop
 unfolding rowOf
-line-by-requires c κs = (c .before .before .before .pre .1 .0, refl)
+line-into-requires c κs = (c .before .before .before .before .pre .1 .0, refl)
 
 returns : tie.Need-returns Inv-loop μ-loop
-returns c = going-past (c .before .before .loop .inv) (missing _ _ _ (c .before .line-by .ensures) (not-true _ (c .if1 .taken)))
+returns c = going-past (c .before .before .before .loop .inv) (missing _ _ _ (said-cut (c .before .line-into .ensures)) (not-true _ (c .if1 .taken)))
 
-element-copy-out-wide : tie.Need-element-copy-out-wide Inv-loop μ-loop
-element-copy-out-wide c = search needs
+array-read-wide : tie.Need-array-read-wide Inv-loop μ-loop
+array-read-wide c = search needs
 
 wide-requires : tie.Need-wide-requires Inv-loop μ-loop
 wide-requires c κs = search needs
 
-element-copy-out-wide-2 : tie.Need-element-copy-out-wide-2 Inv-loop μ-loop
-element-copy-out-wide-2 c = search needs
+array-read-wide-2 : tie.Need-array-read-wide-2 Inv-loop μ-loop
+array-read-wide-2 c = search needs
 
 wide-requires-2 : tie.Need-wide-requires-2 Inv-loop μ-loop
 wide-requires-2 c κs = search needs
@@ -76,27 +77,27 @@ judge-step-requires c κs = search needs
 
 returns-2 : tie.Need-returns-2 Inv-loop μ-loop
 returns-2 c =
-    line-refused (steps-kept _ _ _) (c .before .before .before .before .before .before .before .before .before .before .before .before .before .loop .inv) (found _ _ _ (c .before .before .before .before .before .before .before .before .before .before .before .before .line-by .ensures) (not-false _ (c .before .before .before .before .before .before .before .before .before .before .before .if1 .left)))
-    (by-names (c .before .before .before .before .before .before .before .before .before .before .before .before .before .before .before .before .args .nc) (c .before .before .before .before .before .before .before .before .before .before .before .before .before .before .before .before .args .t5) (c .before .before .before .before .before .before .before .before .before .before .before .before .before .before .before .before .args .t6) (c .before .before .before .before .before .before .before .before .before .before .before .before .before .loop .x .n) (c .before .before .before .before .before .before .before .before .before .before .before .before .line-by .result .frame) (c .before .before .before .before .before .before .before .before .wide .ensures .0) (c .before .before .before .before .before .before .wide2 .ensures .0) (c .before .before .named .ensures) (c .before .judge-step .ensures)) (c .if2 .taken)
+    line-refused (steps-kept _ _ _) (c .before .before .before .before .before .before .before .before .before .before .before .before .loop .inv) (found _ _ _ (said-cut (c .before .before .before .before .before .before .before .before .before .before .line-into .ensures)) (not-false _ (c .before .before .before .before .before .before .before .before .before .if1 .left)))
+    (by-names (c .before .before .before .before .before .before .before .before .before .before .before .before .before .before .before .args .nc) (c .before .before .before .before .before .before .before .before .before .before .before .before .before .before .before .args .t5) (c .before .before .before .before .before .before .before .before .before .before .before .before .before .before .before .args .t6) (c .before .before .before .before .before .before .before .before .before .before .before .before .loop .x .n) _ (c .before .before .before .before .before .before .before .before .wide .ensures .0) (c .before .before .before .before .before .before .before .wide2 .ensures .0) (c .before .before .before .named .ensures) (c .before .judge-step .ensures)) (c .if2 .taken)
 
-lines-fit : (c : tie.After-struct-known Inv-loop μ-loop) → c .before .before .before .before .before .before .before .before .before .before .before .before .before .before .loop .next .line ≤ 32768
-lines-fit c = let w = c .before .before .before .before .before .before .before .before .before .before .before .before .before .before .loop .inv .within in omega (arith, w .at, w .line, c .before .before .before .before .before .before .before .before .before .before .before .before .before .before .before .before .before .pre .1 .1)
+lines-fit : (c : tie.After-struct-known Inv-loop μ-loop) → c .before .before .before .before .before .before .before .before .before .before .before .before .before .loop .next .line ≤ 32768
+lines-fit c = let w = c .before .before .before .before .before .before .before .before .before .before .before .before .before .loop .inv .within in omega (arith, w .at, w .line, c .before .before .before .before .before .before .before .before .before .before .before .before .before .before .before .before .pre .1 .1)
 
 add-line : tie.Need-add-line Inv-loop μ-loop
 add-line c = omega (arith, lines-fit c)
 
 cast-step-of : tie.Need-cast-step-of Inv-loop μ-loop
-cast-step-of c = omega (arith, lines-fit c)
+cast-step-of c = omega (arith, lines-fit (c .before))
 
 step-of-requires : tie.Need-step-of-requires Inv-loop μ-loop
 step-of-requires c κs = search needs
 
 room : (c : tie.After-step-of Inv-loop μ-loop) → c .before .before .before .before .before .before .before .before .before .before .before .before .before .before .before .loop .x .n < 1024
 unfolding judgeStep
-room c = has-room _ 1024 _ _ _ (sym (c .before .before .before .judge-step .ensures) ∙ c .before .before .if2 .left)
+room c = has-room _ 1024 _ _ _ (sym (c .before .before .before .before .judge-step .ensures) ∙ c .before .before .before .if2 .left)
 
-mul-t31 : tie.Need-mul-t31 Inv-loop μ-loop
-mul-t31 c = omega (arith, room c)
+mul-t41 : tie.Need-mul-t41 Inv-loop μ-loop
+mul-t41 c = omega (arith, room c)
 
 element-set-from-x : tie.Need-element-set-from-x Inv-loop μ-loop
 element-set-from-x c = room c
@@ -105,18 +106,18 @@ add-x : tie.Need-add-x Inv-loop μ-loop
 add-x c = omega (arith, room c)
 
 moved-requires : tie.Need-moved-requires Inv-loop μ-loop
-moved-requires c κs = let d = found _ _ _ (c .before .before .before .before .before .before .before .before .before .before .before .before .before .before .line-by .ensures) (not-false _ (c .before .before .before .before .before .before .before .before .before .before .before .before .before .if1 .left)) in omega (arith, d .taken .next, c .before .before .before .before .before .before .before .before .before .before .before .before .before .before .before .loop .inv .within .line)
+moved-requires c κs = let d = found _ _ _ (said-cut (c .before .before .before .before .before .before .before .before .before .before .before .before .before .line-into .ensures)) (not-false _ (c .before .before .before .before .before .before .before .before .before .before .before .before .if1 .left)) in omega (arith, d .taken .next, c .before .before .before .before .before .before .before .before .before .before .before .before .before .before .before .loop .inv .within .line)
 
 loop-less : tie.Need-loop-less Inv-loop μ-loop
 loop-less c =
-    let d = found _ _ _ (c .before .before .before .before .before .before .before .before .before .before .before .before .before .before .before .line-by .ensures) (not-false _ (c .before .before .before .before .before .before .before .before .before .before .before .before .before .before .if1 .left)) in
+    let d = found _ _ _ (said-cut (c .before .before .before .before .before .before .before .before .before .before .before .before .before .before .line-into .ensures)) (not-false _ (c .before .before .before .before .before .before .before .before .before .before .before .before .before .if1 .left)) in
     rw (c .moved .ensures) (omega (arith, moved-within (c .before .before .before .before .before .before .before .before .before .before .before .before .before .before .before .before .loop .inv .within) d .at, d .taken .next))
 
 loop-again : tie.Need-loop-again Inv-loop μ-loop
 loop-again c =
     rw (c .moved .ensures, c .before .step-of .ensures)
-    (line-on (steps-kept _ _ _) (c .before .before .before .before .before .before .before .before .before .before .before .before .before .before .before .before .loop .inv) (found _ _ _ (c .before .before .before .before .before .before .before .before .before .before .before .before .before .before .before .line-by .ensures) (not-false _ (c .before .before .before .before .before .before .before .before .before .before .before .before .before .before .if1 .left)))
-    (by-names (c .before .before .before .before .before .before .before .before .before .before .before .before .before .before .before .before .before .before .before .args .nc) (c .before .before .before .before .before .before .before .before .before .before .before .before .before .before .before .before .before .before .before .args .t5) (c .before .before .before .before .before .before .before .before .before .before .before .before .before .before .before .before .before .before .before .args .t6) (c .before .before .before .before .before .before .before .before .before .before .before .before .before .before .before .before .loop .x .n) (c .before .before .before .before .before .before .before .before .before .before .before .before .before .before .before .line-by .result .frame) (c .before .before .before .before .before .before .before .before .before .before .before .wide .ensures .0) (c .before .before .before .before .before .before .before .before .before .wide2 .ensures .0) (c .before .before .before .before .before .named .ensures) (c .before .before .before .before .judge-step .ensures)) tt (c .before .before .before .if2 .left))
+    (line-on (steps-kept _ _ _) (c .before .before .before .before .before .before .before .before .before .before .before .before .before .before .before .before .loop .inv) (found _ _ _ (said-cut (c .before .before .before .before .before .before .before .before .before .before .before .before .before .before .line-into .ensures)) (not-false _ (c .before .before .before .before .before .before .before .before .before .before .before .before .before .if1 .left)))
+    (by-names (c .before .before .before .before .before .before .before .before .before .before .before .before .before .before .before .before .before .before .before .args .nc) (c .before .before .before .before .before .before .before .before .before .before .before .before .before .before .before .before .before .before .before .args .t5) (c .before .before .before .before .before .before .before .before .before .before .before .before .before .before .before .before .before .before .before .args .t6) (c .before .before .before .before .before .before .before .before .before .before .before .before .before .before .before .before .loop .x .n) _ (c .before .before .before .before .before .before .before .before .before .before .before .before .wide .ensures .0) (c .before .before .before .before .before .before .before .before .before .before .before .wide2 .ensures .0) (c .before .before .before .before .before .before .before .named .ensures) (c .before .before .before .before .before .judge-step .ensures)) tt (c .before .before .before .before .if2 .left))
 
 pub read-steps-spec : {M : Type 1} → statement M
 read-steps-spec =
@@ -126,11 +127,11 @@ read-steps-spec =
     μ-loop
     no-steps-requires
     loop-holds
-    line-by-requires
+    line-into-requires
     returns
-    element-copy-out-wide
+    array-read-wide
     wide-requires
-    element-copy-out-wide-2
+    array-read-wide-2
     wide-requires-2
     mul-field
     element-copy-out-field
@@ -144,7 +145,7 @@ read-steps-spec =
     add-line
     cast-step-of
     step-of-requires
-    mul-t31
+    mul-t41
     element-set-from-x
     add-x
     moved-requires

@@ -1,6 +1,4 @@
 // Where a reader stands in a text, and the line there: what the readers of both texts share.
-use text::Cut;
-use text::Frame;
 use text::Line;
 ghost use mathlib.Core.Path.{_≡_};
 ghost use Prim.Native.Nat.{_≤_, _<_};
@@ -63,21 +61,6 @@ pub fn line_into(digits: &[u32; 512], s: &[u8], c: Cursor, section: u8, b: &mut 
         return text::no_line(at, b);
     }
     line
-}
-
-// The same as one value.
-pub fn line_by(digits: &[u32; 512], s: &[u8], c: Cursor, section: u8) -> Cut
-    requires { ⌜ now digits ≡ digitTable ⌝ }
-    requires { ⌜ rowOf section .section ≡ section ⌝ }
-    ensures { λ r. ⌜ r ≡ lineOf (now (s .entry)) c section ⌝ }
-{
-    let mut b = [0u8; 16];
-    let line = line_into(digits, s, c, section, &mut b);
-    Cut {
-        ok: line.ok,
-        frame: Frame { b, n: line.n },
-        next: line.next,
-    }
 }
 
 // What stands behind the last line: nothing, or a line that is refused.

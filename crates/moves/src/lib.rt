@@ -10,7 +10,8 @@ ghost use Rattle.runs.specs.Machine.{widen, new, checkcast, getstatic, putstati
 ghost use Rattle.runs.specs.Steps.{holdsBelow, isA, step};
 ghost use Rattle.state.specs.View.{labelView, linkView, frameView, poolFrom};
 ghost use Rattle.live.specs.Live.{labelOf, linkOf, stateOf, movedTo};
-ghost use Rattle.permits.specs.Keys.{Pairs, Exact, Alike};
+ghost use Rattle.permits.specs.Fields.{Pairs};
+ghost use Rattle.permits.specs.Chains.{Chained};
 ghost use Rattle.moves.specs.Linked.{readBy, writtenBy};
 ghost use Rattle.moves.specs.Below.{Supers, belowBy, labelBelow, objectBelow};
 ghost use Rattle.moves.specs.Answers.{Answers};
@@ -103,16 +104,16 @@ pub fn new(
     labels: &mut [u16; 544],
     pool: &mut [u8; 256],
     at: Counts,
-    exact: &[u32],
+    effects: &[u16; 4096],
     r: u8,
     b: u8,
 ) -> Moved
     requires { ⌜ (at .n ≤ 32) × (at .depth ≤ 16) ⌝ }
-    requires { ⌜ ((P : Package) × Exact P (now exact)) ⌝ }
-    ensures { λ m. ⌜ ((P : Package) → Exact P (now (exact .entry)) → (ks cs : List ℕ) → Answers (λ t. step P t (new r b)) (stateOf (now (labels .entry)) ks (now (pool .entry)) cs at) (movedTo m (now (labels .exit)) ks (now (pool .exit)) cs)) ⌝ }
+    requires { ⌜ ((P : Package) × Chained P (now effects)) ⌝ }
+    ensures { λ m. ⌜ ((P : Package) → Chained P (now (effects .entry)) → (ks cs : List ℕ) → Answers (λ t. step P t (new r b)) (stateOf (now (labels .entry)) ks (now (pool .entry)) cs at) (movedTo m (now (labels .exit)) ks (now (pool .exit)) cs)) ⌝ }
 {
     let taken = pool[r as usize] != 255;
-    let allowed = permits::permitted(exact, at.method, 0, b);
+    let allowed = permits::permitted(effects, at.method, 0, b);
     if !allowed {
         return Moved { code: 61, now: at }; // whether or not the number is taken
     }
@@ -127,16 +128,16 @@ pub fn checkcast(
     labels: &mut [u16; 544],
     pool: &[u8; 256],
     at: Counts,
-    exact: &[u32],
+    effects: &[u16; 4096],
     rows: &[u64; 254],
     r: u8,
     b: u8,
 ) -> Moved
     requires { ⌜ (at .n ≤ 32) × (at .depth ≤ 16) ⌝ }
-    requires { ⌜ ((P : Package) × (Exact P (now exact) × Supers P (now rows))) ⌝ }
-    ensures { λ m. ⌜ ((P : Package) → Exact P (now (exact .entry)) → Supers P (now (rows .entry)) → (ks cs : List ℕ) → Answers (λ t. step P t (checkcast r b)) (stateOf (now (labels .entry)) ks (now (pool .entry)) cs at) (movedTo m (now (labels .exit)) ks (now (pool .entry)) cs)) ⌝ }
+    requires { ⌜ ((P : Package) × (Chained P (now effects) × Supers P (now rows))) ⌝ }
+    ensures { λ m. ⌜ ((P : Package) → Chained P (now (effects .entry)) → Supers P (now (rows .entry)) → (ks cs : List ℕ) → Answers (λ t. step P t (checkcast r b)) (stateOf (now (labels .entry)) ks (now (pool .entry)) cs at) (movedTo m (now (labels .exit)) ks (now (pool .entry)) cs)) ⌝ }
 {
-    if !permits::permitted(exact, at.method, 1, b) {
+    if !permits::permitted(effects, at.method, 1, b) {
         return Moved { code: 61, now: at };
     }
     if !live::has_ref(labels, at.depth, at.n, r) {
@@ -193,16 +194,16 @@ pub fn getstatic(
     labels: &mut [u16; 544],
     links: &[u32; 256],
     at: Counts,
-    alike: &[u32],
+    effects: &[u16; 4096],
     pairs: &[u16; 256],
     f: u8,
     q: u8,
 ) -> Moved
     requires { ⌜ (at .nlinks ≤ 256) × ((at .n ≤ 32) × (at .depth ≤ 16)) ⌝ }
-    requires { ⌜ ((P : Package) × (Pairs P (now pairs) × Alike P (now alike))) ⌝ }
-    ensures { λ m. ⌜ ((P : Package) → Pairs P (now (pairs .entry)) → Alike P (now (alike .entry)) → (os cs : List ℕ) → Answers (λ t. step P t (getstatic f q)) (stateOf (now (labels .entry)) (now (links .entry)) os cs at) (movedTo m (now (labels .exit)) (now (links .entry)) os cs)) ⌝ }
+    requires { ⌜ ((P : Package) × (Pairs P (now pairs) × Chained P (now effects))) ⌝ }
+    ensures { λ m. ⌜ ((P : Package) → Pairs P (now (pairs .entry)) → Chained P (now (effects .entry)) → (os cs : List ℕ) → Answers (λ t. step P t (getstatic f q)) (stateOf (now (labels .entry)) (now (links .entry)) os cs at) (movedTo m (now (labels .exit)) (now (links .entry)) os cs)) ⌝ }
 {
-    if !permits::permitted_field(alike, pairs, at.method, 2, f) {
+    if !permits::permitted_field(effects, pairs, at.method, 2, f) {
         return Moved { code: 61, now: at };
     }
     read(labels, links, at, link_of(pairs, 255, f, q))
@@ -213,16 +214,16 @@ pub fn putstatic(
     labels: &[u16; 544],
     links: &mut [u32; 256],
     at: Counts,
-    alike: &[u32],
+    effects: &[u16; 4096],
     pairs: &[u16; 256],
     f: u8,
     q: u8,
 ) -> Moved
     requires { ⌜ (at .nlinks ≤ 256) × ((at .n ≤ 32) × (at .depth ≤ 16)) ⌝ }
-    requires { ⌜ ((P : Package) × (Pairs P (now pairs) × Alike P (now alike))) ⌝ }
-    ensures { λ m. ⌜ ((P : Package) → Pairs P (now (pairs .entry)) → Alike P (now (alike .entry)) → (os cs : List ℕ) → Answers (λ t. step P t (putstatic f q)) (stateOf (now (labels .entry)) (now (links .entry)) os cs at) (movedTo m (now (labels .entry)) (now (links .exit)) os cs)) ⌝ }
+    requires { ⌜ ((P : Package) × (Pairs P (now pairs) × Chained P (now effects))) ⌝ }
+    ensures { λ m. ⌜ ((P : Package) → Pairs P (now (pairs .entry)) → Chained P (now (effects .entry)) → (os cs : List ℕ) → Answers (λ t. step P t (putstatic f q)) (stateOf (now (labels .entry)) (now (links .entry)) os cs at) (movedTo m (now (labels .entry)) (now (links .exit)) os cs)) ⌝ }
 {
-    if !permits::permitted_field(alike, pairs, at.method, 3, f) {
+    if !permits::permitted_field(effects, pairs, at.method, 3, f) {
         return Moved { code: 61, now: at };
     }
     write(labels, links, at, link_of(pairs, 255, f, q))
@@ -233,7 +234,7 @@ pub fn getfield(
     labels: &mut [u16; 544],
     links: &[u32; 256],
     at: Counts,
-    alike: &[u32],
+    effects: &[u16; 4096],
     pairs: &[u16; 256],
     rows: &[u64; 254],
     f: u8,
@@ -241,10 +242,10 @@ pub fn getfield(
     q: u8,
 ) -> Moved
     requires { ⌜ (at .nlinks ≤ 256) × ((at .n ≤ 32) × (at .depth ≤ 16)) ⌝ }
-    requires { ⌜ ((P : Package) × (Pairs P (now pairs) × (Alike P (now alike) × Supers P (now rows)))) ⌝ }
-    ensures { λ m. ⌜ ((P : Package) → Pairs P (now (pairs .entry)) → Alike P (now (alike .entry)) → Supers P (now (rows .entry)) → (os cs : List ℕ) → Answers (λ t. step P t (getfield f p q)) (stateOf (now (labels .entry)) (now (links .entry)) os cs at) (movedTo m (now (labels .exit)) (now (links .entry)) os cs)) ⌝ }
+    requires { ⌜ ((P : Package) × (Pairs P (now pairs) × (Chained P (now effects) × Supers P (now rows)))) ⌝ }
+    ensures { λ m. ⌜ ((P : Package) → Pairs P (now (pairs .entry)) → Chained P (now (effects .entry)) → Supers P (now (rows .entry)) → (os cs : List ℕ) → Answers (λ t. step P t (getfield f p q)) (stateOf (now (labels .entry)) (now (links .entry)) os cs at) (movedTo m (now (labels .exit)) (now (links .entry)) os cs)) ⌝ }
 {
-    if !permits::permitted_field(alike, pairs, at.method, 4, f) {
+    if !permits::permitted_field(effects, pairs, at.method, 4, f) {
         return Moved { code: 61, now: at };
     }
     let k = link_of(pairs, p, f, q);
@@ -259,7 +260,7 @@ pub fn putfield(
     labels: &[u16; 544],
     links: &mut [u32; 256],
     at: Counts,
-    alike: &[u32],
+    effects: &[u16; 4096],
     pairs: &[u16; 256],
     rows: &[u64; 254],
     f: u8,
@@ -267,10 +268,10 @@ pub fn putfield(
     q: u8,
 ) -> Moved
     requires { ⌜ (at .nlinks ≤ 256) × ((at .n ≤ 32) × (at .depth ≤ 16)) ⌝ }
-    requires { ⌜ ((P : Package) × (Pairs P (now pairs) × (Alike P (now alike) × Supers P (now rows)))) ⌝ }
-    ensures { λ m. ⌜ ((P : Package) → Pairs P (now (pairs .entry)) → Alike P (now (alike .entry)) → Supers P (now (rows .entry)) → (os cs : List ℕ) → Answers (λ t. step P t (putfield f p q)) (stateOf (now (labels .entry)) (now (links .entry)) os cs at) (movedTo m (now (labels .entry)) (now (links .exit)) os cs)) ⌝ }
+    requires { ⌜ ((P : Package) × (Pairs P (now pairs) × (Chained P (now effects) × Supers P (now rows)))) ⌝ }
+    ensures { λ m. ⌜ ((P : Package) → Pairs P (now (pairs .entry)) → Chained P (now (effects .entry)) → Supers P (now (rows .entry)) → (os cs : List ℕ) → Answers (λ t. step P t (putfield f p q)) (stateOf (now (labels .entry)) (now (links .entry)) os cs at) (movedTo m (now (labels .entry)) (now (links .exit)) os cs)) ⌝ }
 {
-    if !permits::permitted_field(alike, pairs, at.method, 5, f) {
+    if !permits::permitted_field(effects, pairs, at.method, 5, f) {
         return Moved { code: 61, now: at };
     }
     let k = link_of(pairs, p, f, q);

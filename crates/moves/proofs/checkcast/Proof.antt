@@ -13,7 +13,7 @@ permitted-requires c κs = search needs
 
 returns : tie.Need-returns
 unfolding step view
-returns c = λ P x w ks cs f. rw (missing (c .before .permitted .ensures .1 P x) (c .if1 .taken))
+returns c = λ P x w ks cs f. rw (missing (c .before .permitted .ensures P x) (c .if1 .taken))
 
 has-ref-requires : tie.Need-has-ref-requires
 has-ref-requires c κs = search needs
@@ -21,9 +21,9 @@ has-ref-requires c κs = search needs
 returns-2 : tie.Need-returns-2
 unfolding step view
 returns-2 c = λ P x w ks cs f.
-    let a = c .before .before .before .before .before .before .args in
+    let a = c .before .before .before .before .before .args in
     let h = labels-long (a .labels .now) ks (a .pool .now) cs (a .at) f in
-    rw (held (c .before .before .before .before .permitted .ensures .1 P x) (c .before .before .before .if1 .left), missing (c .before .has-ref .ensures h) (c .if2 .taken))
+    rw (held (c .before .before .before .before .permitted .ensures P x) (c .before .before .before .if1 .left), missing (c .before .has-ref .ensures h) (c .if2 .taken))
 
 is-a-requires : tie.Need-is-a-requires
 is-a-requires c κs = search needs
@@ -31,10 +31,10 @@ is-a-requires c κs = search needs
 returns-3 : tie.Need-returns-3
 unfolding step view
 returns-3 c = λ P x w ks cs f.
-    let a = c .before .before .before .before .before .before .before .before .args in
+    let a = c .before .before .before .before .before .before .before .args in
     let h = labels-long (a .labels .now) ks (a .pool .now) cs (a .at) f in
     let l = in-row (a .labels .now) ks (a .pool .now) cs (a .at) f (a .r) (search needs) in
-    rw (held (c .before .before .before .before .before .before .permitted .ensures .1 P x) (c .before .before .before .before .before .if1 .left), held (c .before .before .before .has-ref .ensures h) (c .before .before .if2 .left), missing (c .before .is-a .ensures .1 P w l) (c .if3 .taken))
+    rw (held (c .before .before .before .before .before .before .permitted .ensures P x) (c .before .before .before .before .before .if1 .left), held (c .before .before .before .has-ref .ensures h) (c .before .before .if2 .left), missing (c .before .is-a .ensures .1 P w l) (c .if3 .taken))
 
 add-label-requires : tie.Need-add-label-requires
 add-label-requires c κs = search needs
@@ -42,10 +42,10 @@ add-label-requires c κs = search needs
 returns-4 : tie.Need-returns-4
 unfolding step view
 returns-4 c = λ P x w ks cs f.
-    let a = c .before .before .before .before .before .before .before .before .before .before .args in
+    let a = c .before .before .before .before .before .before .before .before .before .args in
     let h = labels-long (a .labels .now) ks (a .pool .now) cs (a .at) f in
     let l = in-row (a .labels .now) ks (a .pool .now) cs (a .at) f (a .r) (search needs) in
-    rw (held (c .before .before .before .before .before .before .before .before .permitted .ensures .1 P x) (c .before .before .before .before .before .before .before .if1 .left), held (c .before .before .before .before .before .has-ref .ensures h) (c .before .before .before .before .if2 .left), held (c .before .before .before .is-a .ensures .1 P w l) (c .before .before .if3 .left)) (c .add-label .ensures ks _ cs f)
+    rw (held (c .before .before .before .before .before .before .before .before .permitted .ensures P x) (c .before .before .before .before .before .before .before .if1 .left), held (c .before .before .before .before .before .has-ref .ensures h) (c .before .before .before .before .if2 .left), held (c .before .before .before .is-a .ensures .1 P w l) (c .before .before .if3 .left)) (c .add-label .ensures ks _ cs f)
 
 pub checkcast-spec : {M : Type 1} → statement M
 checkcast-spec =

@@ -10,11 +10,11 @@ use Rattle.moves.proofs.putfield.Statement.{statement}
 use Rattle.moves.proofs.putfield.Tie as tie
 
 permitted-field-requires : tie.Need-permitted-field-requires
-permitted-field-requires c κs = search needs
+permitted-field-requires c κs = let p = c .pre .1 in (search needs, (p .0, (p .1 .0, p .1 .1 .0)))
 
 returns : tie.Need-returns
 unfolding step view
-returns c = λ P p x w os cs f. rw (missing (c .before .permitted-field .ensures .1 P p x) (c .if1 .taken))
+returns c = λ P p x w os cs f. rw (missing (c .before .permitted-field .ensures P p x) (c .if1 .taken))
 
 link-of-requires : tie.Need-link-of-requires
 link-of-requires c κs = search needs
@@ -28,11 +28,11 @@ has-below-requires c κs = search needs
 returns-2 : tie.Need-returns-2
 unfolding view
 returns-2 c = λ P p x w os cs f.
-    let a = c .before .before .before .before .before .before .args in
+    let a = c .before .before .before .before .before .args in
     let h = labels-long (a .labels .now) (a .links .now) os cs (a .at) f in
     let s = stateOf (a .labels .now) (a .links .now) os cs (a .at) in
     putfield-of P s (view s) (a .f) (a .q) _ (a .p) (c .before .before .link-of .ensures P p)
-    (rw (held (c .before .before .before .before .permitted-field .ensures .1 P p x) (c .before .before .before .if1 .left), missing (c .before .has-below .ensures .1 P w h) (c .if2 .taken)))
+    (rw (held (c .before .before .before .before .permitted-field .ensures P p x) (c .before .before .before .if1 .left), missing (c .before .has-below .ensures .1 P w h) (c .if2 .taken)))
 
 write-requires : tie.Need-write-requires
 write-requires c κs = search needs
@@ -40,11 +40,11 @@ write-requires c κs = search needs
 returns-3 : tie.Need-returns-3
 unfolding view
 returns-3 c = λ P p x w os cs f.
-    let a = c .before .before .before .before .before .before .before .before .args in
+    let a = c .before .before .before .before .before .before .before .args in
     let h = labels-long (a .labels .now) (a .links .now) os cs (a .at) f in
     let s = stateOf (a .labels .now) (a .links .now) os cs (a .at) in
     putfield-of P s (view s) (a .f) (a .q) _ (a .p) (c .before .before .before .before .link-of .ensures P p)
-    (rw (held (c .before .before .before .before .before .before .permitted-field .ensures .1 P p x) (c .before .before .before .before .before .if1 .left), held (c .before .before .before .has-below .ensures .1 P w h) (c .before .before .if2 .left)) (c .write .ensures os cs f))
+    (rw (held (c .before .before .before .before .before .before .permitted-field .ensures P p x) (c .before .before .before .before .before .if1 .left), held (c .before .before .before .has-below .ensures .1 P w h) (c .before .before .if2 .left)) (c .write .ensures os cs f))
 
 pub putfield-spec : {M : Type 1} → statement M
 putfield-spec =

@@ -13,7 +13,7 @@ permitted-field-requires c κs = search needs
 
 returns : tie.Need-returns
 unfolding step view
-returns c = λ P p x os cs f. rw (missing (c .before .permitted-field .ensures .1 P p x) (c .if1 .taken))
+returns c = λ P p x os cs f. rw (missing (c .before .permitted-field .ensures P p x) (c .if1 .taken))
 
 link-of-requires : tie.Need-link-of-requires
 link-of-requires c κs = search needs
@@ -24,10 +24,10 @@ write-requires c κs = search needs
 returns-2 : tie.Need-returns-2
 unfolding view
 returns-2 c = λ P p x os cs f.
-    let a = c .before .before .before .before .before .before .args in
+    let a = c .before .before .before .before .before .args in
     let s = stateOf (a .labels .now) (a .links .now) os cs (a .at) in
     putstatic-of P s (view s) (a .f) (a .q) _ (c .before .link-of .ensures P p)
-    (rw (held (c .before .before .before .before .permitted-field .ensures .1 P p x) (c .before .before .before .if1 .left)) (c .write .ensures os cs f))
+    (rw (held (c .before .before .before .before .permitted-field .ensures P p x) (c .before .before .before .if1 .left)) (c .write .ensures os cs f))
 
 pub putstatic-spec : {M : Type 1} → statement M
 putstatic-spec =

@@ -11,7 +11,7 @@ ghost use Rattle.steps.specs.View.{argumentsAt};
 ghost use Rattle.state.specs.View.{frameView, view, pack};
 ghost use Rattle.state.specs.Fine.{Fine};
 ghost use Rattle.live.specs.Live.{labelOf, savedOf, stateOf, movedTo};
-ghost use Rattle.permits.specs.Keys.{Exact};
+ghost use Rattle.permits.specs.Chains.{Chained};
 ghost use Rattle.moves.specs.Below.{Supers};
 ghost use Rattle.moves.specs.Answers.{Answers};
 ghost use Rattle.calls.specs.Called.{MethodAt, paramsIn, overridesBy, runsBy};
@@ -167,17 +167,17 @@ pub fn invokestatic(
     labels: &mut [u16; 544],
     saved: &mut [u32; 16],
     at: Counts,
-    exact: &[u32],
+    effects: &[u16; 4096],
     k: Step,
     called: Method,
 ) -> Moved
     requires { ⌜ ((ks : List ℕ) × ((os : List ℕ) × Fine (stateOf (now labels) ks os (now saved) at))) ⌝ }
-    requires { ⌜ ((P : Package) × (Exact P (now exact) × MethodAt P (byte (k .b) 1) called)) ⌝ }
-    ensures { λ m. ⌜ ((P : Package) → Exact P (now (exact .entry)) → MethodAt P (byte (k .b) 1) called → (ks os : List ℕ) → Answers (λ t. step P t (invokestatic (byte (k .b) 1) (argumentsAt (k .b) 2))) (stateOf (now (labels .entry)) ks os (now (saved .entry)) at) (movedTo m (now (labels .exit)) ks os (now (saved .exit)))) ⌝ }
+    requires { ⌜ ((P : Package) × (Chained P (now effects) × MethodAt P (byte (k .b) 1) called)) ⌝ }
+    ensures { λ m. ⌜ ((P : Package) → Chained P (now (effects .entry)) → MethodAt P (byte (k .b) 1) called → (ks os : List ℕ) → Answers (λ t. step P t (invokestatic (byte (k .b) 1) (argumentsAt (k .b) 2))) (stateOf (now (labels .entry)) ks os (now (saved .entry)) at) (movedTo m (now (labels .exit)) ks os (now (saved .exit)))) ⌝ }
 {
     let number = k.b[1];
     let held = holds_all(labels, at.depth, at.n, k, 2, called);
-    let allowed = permits::permitted(exact, at.method, 6, number);
+    let allowed = permits::permitted(effects, at.method, 6, number);
     if !allowed {
         return Moved { code: 61, now: at }; // whether or not the arguments are held
     }
@@ -216,20 +216,20 @@ pub fn invokemethod(
     pool: &[u8; 256],
     saved: &mut [u32; 16],
     at: Counts,
-    exact: &[u32],
+    effects: &[u16; 4096],
     rows: &[u64; 254],
     k: Step,
     called: Method,
     runs: Method,
 ) -> Moved
     requires { ⌜ ((ks : List ℕ) × Fine (stateOf (now labels) ks (now pool) (now saved) at)) ⌝ }
-    requires { ⌜ ((P : Package) × (Exact P (now exact) × (Supers P (now rows) × (MethodAt P (byte (k .b) 1) called × MethodAt P (byte (k .b) 2) runs)))) ⌝ }
-    ensures { λ m. ⌜ ((P : Package) → Exact P (now (exact .entry)) → Supers P (now (rows .entry)) → MethodAt P (byte (k .b) 1) called → MethodAt P (byte (k .b) 2) runs → (ks : List ℕ) → Answers (λ t. step P t (invokemethod (byte (k .b) 1) (byte (k .b) 2) (byte (k .b) 3) (argumentsAt (k .b) 4))) (stateOf (now (labels .entry)) ks (now (pool .entry)) (now (saved .entry)) at) (movedTo m (now (labels .exit)) ks (now (pool .entry)) (now (saved .exit)))) ⌝ }
+    requires { ⌜ ((P : Package) × (Chained P (now effects) × (Supers P (now rows) × (MethodAt P (byte (k .b) 1) called × MethodAt P (byte (k .b) 2) runs)))) ⌝ }
+    ensures { λ m. ⌜ ((P : Package) → Chained P (now (effects .entry)) → Supers P (now (rows .entry)) → MethodAt P (byte (k .b) 1) called → MethodAt P (byte (k .b) 2) runs → (ks : List ℕ) → Answers (λ t. step P t (invokemethod (byte (k .b) 1) (byte (k .b) 2) (byte (k .b) 3) (argumentsAt (k .b) 4))) (stateOf (now (labels .entry)) ks (now (pool .entry)) (now (saved .entry)) at) (movedTo m (now (labels .exit)) ks (now (pool .entry)) (now (saved .exit)))) ⌝ }
 {
     let number = k.b[1];
     let v = k.b[2];
     let r = k.b[3];
-    if !permits::permitted(exact, at.method, 7, number) {
+    if !permits::permitted(effects, at.method, 7, number) {
         return Moved { code: 61, now: at };
     }
     if !moves::has_below(rows, labels, at.depth, at.n, r, called.class) {

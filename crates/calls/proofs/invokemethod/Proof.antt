@@ -50,30 +50,30 @@ permitted-requires c κs = search needs
 
 returns : tie.Need-returns
 unfolding step view
-returns c = λ P x w n v ks f. rw (missing (c .before .permitted .ensures .1 P x) (c .if1 .taken))
+returns c = λ P x w n v ks f. rw (missing (c .before .permitted .ensures P x) (c .if1 .taken))
 
 has-below-requires : tie.Need-has-below-requires
-has-below-requires c κs = let f = c .before .before .before .before .before .before .before .pre .0 .1 in omega (arith, f .labels, f .depth)
+has-below-requires c κs = let f = c .before .before .before .before .before .before .pre .0 .1 in omega (arith, f .labels, f .depth)
 
 returns-2 : tie.Need-returns-2
 unfolding view
 returns-2 c = λ P x w n v ks f.
-    let s = found (c .before .before .before .before .before .before .before .before .before) ks in
-    let l = long (c .before .before .before .before .before .before .before .before .before) ks f in
-    let p = held (c .before .before .before .before .permitted .ensures .1 P x) (c .before .before .before .if1 .left) in
+    let s = found (c .before .before .before .before .before .before .before .before) ks in
+    let l = long (c .before .before .before .before .before .before .before .before) ks f in
+    let p = held (c .before .before .before .before .permitted .ensures P x) (c .before .before .before .if1 .left) in
     let i = instance-named P (n .good) _ _ p in
     method-of P s (view s) _ _ _ (params-is n (i .0)) (result-is n (i .0)) _ _ (owner-is n) (owner-is v)
     (rw (p, missing (c .before .has-below .ensures .1 P w l) (c .if2 .taken)))
 
 holds-all-requires : tie.Need-holds-all-requires
-holds-all-requires c κs = let f = c .before .before .before .before .before .before .before .before .before .before .pre .0 .1 in (omega (arith, f .labels, f .depth), (search needs, asked (c .before .before .before .before .before .before .before .before .before .before) .few))
+holds-all-requires c κs = let f = c .before .before .before .before .before .before .before .before .before .pre .0 .1 in (omega (arith, f .labels, f .depth), (search needs, asked (c .before .before .before .before .before .before .before .before .before) .few))
 
 returns-3 : tie.Need-returns-3
 unfolding view
 returns-3 c = λ P x w n v ks f.
-    let s = found (c .before .before .before .before .before .before .before .before .before .before .before .before) ks in
-    let l = long (c .before .before .before .before .before .before .before .before .before .before .before .before) ks f in
-    let p = held (c .before .before .before .before .before .before .before .permitted .ensures .1 P x) (c .before .before .before .before .before .before .if1 .left) in
+    let s = found (c .before .before .before .before .before .before .before .before .before .before .before) ks in
+    let l = long (c .before .before .before .before .before .before .before .before .before .before .before) ks f in
+    let p = held (c .before .before .before .before .before .before .before .permitted .ensures P x) (c .before .before .before .before .before .before .if1 .left) in
     let i = instance-named P (n .good) _ _ p in
     method-of P s (view s) _ _ _ (params-is n (i .0)) (result-is n (i .0)) _ _ (owner-is n) (owner-is v)
     (rw (p, held (c .before .before .before .before .has-below .ensures .1 P w l) (c .before .before .before .if2 .left), missing (c .before .holds-all .ensures l) (c .if3 .taken)))
@@ -84,12 +84,12 @@ is-a-requires c κs = search needs
 returns-4 : tie.Need-returns-4
 unfolding view
 returns-4 c = λ P x w n v ks f.
-    let s = found (c .before .before .before .before .before .before .before .before .before .before .before .before .before .before) ks in
-    let l = long (c .before .before .before .before .before .before .before .before .before .before .before .before .before .before) ks f in
-    let p = held (c .before .before .before .before .before .before .before .before .before .permitted .ensures .1 P x) (c .before .before .before .before .before .before .before .before .if1 .left) in
+    let s = found (c .before .before .before .before .before .before .before .before .before .before .before .before .before) ks in
+    let l = long (c .before .before .before .before .before .before .before .before .before .before .before .before .before) ks f in
+    let p = held (c .before .before .before .before .before .before .before .before .before .permitted .ensures P x) (c .before .before .before .before .before .before .before .before .if1 .left) in
     let i = instance-named P (n .good) _ _ p in
     method-of P s (view s) _ _ _ (params-is n (i .0)) (result-is n (i .0)) _ _ (owner-is n) (owner-is v)
-    (rw (p, held (c .before .before .before .before .before .before .has-below .ensures .1 P w l) (c .before .before .before .before .before .if2 .left), held (c .before .before .before .holds-all .ensures l) (c .before .before .if3 .left), missing (c .before .is-a .ensures .1 P w (placed (c .before .before .before .before .before .before .before .before .before .before .before .before .before .before) ks f)) (c .if4 .taken)))
+    (rw (p, held (c .before .before .before .before .before .before .has-below .ensures .1 P w l) (c .before .before .before .before .before .if2 .left), held (c .before .before .before .holds-all .ensures l) (c .before .before .if3 .left), missing (c .before .is-a .ensures .1 P w (placed (c .before .before .before .before .before .before .before .before .before .before .before .before .before) ks f)) (c .if4 .taken)))
 
 runs-for-requires : tie.Need-runs-for-requires
 runs-for-requires c κs = search needs
@@ -97,28 +97,28 @@ runs-for-requires c κs = search needs
 returns-5 : tie.Need-returns-5
 unfolding view
 returns-5 c = λ P x w n v ks f.
-    let s = found (c .before .before .before .before .before .before .before .before .before .before .before .before .before .before .before .before) ks in
-    let l = long (c .before .before .before .before .before .before .before .before .before .before .before .before .before .before .before .before) ks f in
-    let p = held (c .before .before .before .before .before .before .before .before .before .before .before .permitted .ensures .1 P x) (c .before .before .before .before .before .before .before .before .before .before .if1 .left) in
+    let s = found (c .before .before .before .before .before .before .before .before .before .before .before .before .before .before .before) ks in
+    let l = long (c .before .before .before .before .before .before .before .before .before .before .before .before .before .before .before) ks f in
+    let p = held (c .before .before .before .before .before .before .before .before .before .before .before .permitted .ensures P x) (c .before .before .before .before .before .before .before .before .before .before .if1 .left) in
     let i = instance-named P (n .good) _ _ p in
     method-of P s (view s) _ _ _ (params-is n (i .0)) (result-is n (i .0)) _ _ (owner-is n) (owner-is v)
-    (rw (p, held (c .before .before .before .before .before .before .before .before .has-below .ensures .1 P w l) (c .before .before .before .before .before .before .before .if2 .left), held (c .before .before .before .before .before .holds-all .ensures l) (c .before .before .before .before .if3 .left), held (c .before .before .before .is-a .ensures .1 P w (placed (c .before .before .before .before .before .before .before .before .before .before .before .before .before .before .before .before) ks f)) (c .before .before .if4 .left), missing (c .before .runs-for .ensures ∙ sym (runs-is v n (i .0) (i .1) w)) (c .if5 .taken)))
+    (rw (p, held (c .before .before .before .before .before .before .before .before .has-below .ensures .1 P w l) (c .before .before .before .before .before .before .before .if2 .left), held (c .before .before .before .before .before .holds-all .ensures l) (c .before .before .before .before .if3 .left), held (c .before .before .before .is-a .ensures .1 P w (placed (c .before .before .before .before .before .before .before .before .before .before .before .before .before .before .before) ks f)) (c .before .before .if4 .left), missing (c .before .runs-for .ensures ∙ sym (runs-is v n (i .0) (i .1) w)) (c .if5 .taken)))
 
 call-method-requires : tie.Need-call-method-requires
 call-method-requires c κs =
-    let a = asked (c .before .before .before .before .before .before .before .before .before .before .before .before .before .before .before .before .before .before) in
-    let w = c .before .before .before .before .before .before .before .before .before .before .before .before .before .before .before .before .before .before .pre .0 in
-    ((w .0, (_, w .1)), (a .few, held-count a _ (true-passes _ (held (c .before .before .before .before .before .before .before .holds-all .ensures (long (c .before .before .before .before .before .before .before .before .before .before .before .before .before .before .before .before .before .before) (w .0) (w .1))) (c .before .before .before .before .before .before .if3 .left)))))
+    let a = asked (c .before .before .before .before .before .before .before .before .before .before .before .before .before .before .before .before .before) in
+    let w = c .before .before .before .before .before .before .before .before .before .before .before .before .before .before .before .before .before .pre .0 in
+    ((w .0, (_, w .1)), (a .few, held-count a _ (true-passes _ (held (c .before .before .before .before .before .before .before .holds-all .ensures (long (c .before .before .before .before .before .before .before .before .before .before .before .before .before .before .before .before .before) (w .0) (w .1))) (c .before .before .before .before .before .before .if3 .left)))))
 
 returns-6 : tie.Need-returns-6
 unfolding view
 returns-6 c = λ P x w n v ks f.
-    let s = found (c .before .before .before .before .before .before .before .before .before .before .before .before .before .before .before .before .before .before .before) ks in
-    let l = long (c .before .before .before .before .before .before .before .before .before .before .before .before .before .before .before .before .before .before .before) ks f in
-    let p = held (c .before .before .before .before .before .before .before .before .before .before .before .before .before .before .permitted .ensures .1 P x) (c .before .before .before .before .before .before .before .before .before .before .before .before .before .if1 .left) in
+    let s = found (c .before .before .before .before .before .before .before .before .before .before .before .before .before .before .before .before .before .before) ks in
+    let l = long (c .before .before .before .before .before .before .before .before .before .before .before .before .before .before .before .before .before .before) ks f in
+    let p = held (c .before .before .before .before .before .before .before .before .before .before .before .before .before .before .permitted .ensures P x) (c .before .before .before .before .before .before .before .before .before .before .before .before .before .if1 .left) in
     let i = instance-named P (n .good) _ _ p in
     method-of P s (view s) _ _ _ (params-is n (i .0)) (result-is n (i .0)) _ _ (owner-is n) (owner-is v)
-    (rw (p, held (c .before .before .before .before .before .before .before .before .before .before .before .has-below .ensures .1 P w l) (c .before .before .before .before .before .before .before .before .before .before .if2 .left), held (c .before .before .before .before .before .before .before .before .holds-all .ensures l) (c .before .before .before .before .before .before .before .if3 .left), held (c .before .before .before .before .before .before .is-a .ensures .1 P w (placed (c .before .before .before .before .before .before .before .before .before .before .before .before .before .before .before .before .before .before .before) ks f)) (c .before .before .before .before .before .if4 .left), held (c .before .before .before .before .runs-for .ensures ∙ sym (runs-is v n (i .0) (i .1) w)) (c .before .before .before .if5 .left)) (c .call-method .ensures ks _ f))
+    (rw (p, held (c .before .before .before .before .before .before .before .before .before .before .before .has-below .ensures .1 P w l) (c .before .before .before .before .before .before .before .before .before .before .if2 .left), held (c .before .before .before .before .before .before .before .before .holds-all .ensures l) (c .before .before .before .before .before .before .before .if3 .left), held (c .before .before .before .before .before .before .is-a .ensures .1 P w (placed (c .before .before .before .before .before .before .before .before .before .before .before .before .before .before .before .before .before .before) ks f)) (c .before .before .before .before .before .if4 .left), held (c .before .before .before .before .runs-for .ensures ∙ sym (runs-is v n (i .0) (i .1) w)) (c .before .before .before .if5 .left)) (c .call-method .ensures ks _ f))
 
 pub invokemethod-spec : {M : Type 1} → statement M
 invokemethod-spec =

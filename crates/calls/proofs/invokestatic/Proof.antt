@@ -33,36 +33,36 @@ element-copy-out-number : tie.Need-element-copy-out-number
 element-copy-out-number c = search needs
 
 holds-all-requires : tie.Need-holds-all-requires
-holds-all-requires c κs = let f = c .before .before .before .pre .0 .1 .1 in (omega (arith, f .labels, f .depth), (search needs, asked (c .before .before .before) .few))
+holds-all-requires c κs = let f = c .before .before .pre .0 .1 .1 in (omega (arith, f .labels, f .depth), (search needs, asked (c .before .before) .few))
 
 permitted-requires : tie.Need-permitted-requires
 permitted-requires c κs = search needs
 
 returns : tie.Need-returns
 unfolding step view
-returns c = λ P x m ks os f. rw (missing (c .before .permitted .ensures .1 P x) (c .if1 .taken))
+returns c = λ P x m ks os f. rw (missing (c .before .permitted .ensures P x) (c .if1 .taken))
 
 returns-2 : tie.Need-returns-2
 unfolding view
 returns-2 c = λ P x m ks os f.
-    let s = found (c .before .before .before .before .before .before .before) ks os in
-    let l = long (c .before .before .before .before .before .before .before) ks os f in
-    let p = held (c .before .before .permitted .ensures .1 P x) (c .before .if1 .left) in
+    let s = found (c .before .before .before .before .before .before) ks os in
+    let l = long (c .before .before .before .before .before .before) ks os f in
+    let p = held (c .before .before .permitted .ensures P x) (c .before .if1 .left) in
     let h = static-named P (m .good) _ _ p in
     static-of P s (view s) _ _ _ (params-is m h) (result-is m h) (rw (p, missing (c .before .before .before .holds-all .ensures l) (c .if2 .taken)))
 
 call-static-requires : tie.Need-call-static-requires
 call-static-requires c κs =
-    let a = asked (c .before .before .before .before .before .before .before .before .before) in
-    let w = c .before .before .before .before .before .before .before .before .before .pre .0 in
-    (w, (a .few, held-count a _ (true-passes _ (held (c .before .before .before .before .before .holds-all .ensures (long (c .before .before .before .before .before .before .before .before .before) (w .0) (w .1 .0) (w .1 .1))) (c .before .before .if2 .left)))))
+    let a = asked (c .before .before .before .before .before .before .before .before) in
+    let w = c .before .before .before .before .before .before .before .before .pre .0 in
+    (w, (a .few, held-count a _ (true-passes _ (held (c .before .before .before .before .before .holds-all .ensures (long (c .before .before .before .before .before .before .before .before) (w .0) (w .1 .0) (w .1 .1))) (c .before .before .if2 .left)))))
 
 returns-3 : tie.Need-returns-3
 unfolding view
 returns-3 c = λ P x m ks os f.
-    let s = found (c .before .before .before .before .before .before .before .before .before .before) ks os in
-    let l = long (c .before .before .before .before .before .before .before .before .before .before) ks os f in
-    let p = held (c .before .before .before .before .before .permitted .ensures .1 P x) (c .before .before .before .before .if1 .left) in
+    let s = found (c .before .before .before .before .before .before .before .before .before) ks os in
+    let l = long (c .before .before .before .before .before .before .before .before .before) ks os f in
+    let p = held (c .before .before .before .before .before .permitted .ensures P x) (c .before .before .before .before .if1 .left) in
     let h = static-named P (m .good) _ _ p in
     static-of P s (view s) _ _ _ (params-is m h) (result-is m h) (rw (p, held (c .before .before .before .before .before .before .holds-all .ensures l) (c .before .before .before .if2 .left)) (c .call-static .ensures ks os f))
 

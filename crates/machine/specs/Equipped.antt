@@ -6,15 +6,15 @@ use Rattle.meaning.specs.Tables.{Package}
 use Rattle.meaning.specs.Text.{byte}
 use Rattle.tables.specs.declared.Method.{Method}
 use Rattle.steps.specs.declared.Step.{Step}
-use Rattle.permits.specs.Keys.{Pairs, Exact, Alike}
+use Rattle.permits.specs.Fields.{Pairs}
+use Rattle.permits.specs.Chains.{Chained}
 use Rattle.moves.specs.Below.{Supers}
 use Rattle.calls.specs.Called.{MethodAt}
 
 -- the arrays are the package's own
-pub record Equipped (P : Package) (rows exact alike pairs : List ℕ) : Type 0 where
+pub record Equipped (P : Package) (rows effects pairs : List ℕ) : Type 0 where
   pub supers : Supers P rows
-  pub effects : Exact P exact
-  pub likes : Alike P alike
+  pub permits : Chained P effects
   pub fields : Pairs P pairs
 
 -- the rows at the two numbers that 28 names; 27 names the first alone

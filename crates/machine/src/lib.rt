@@ -24,16 +24,15 @@ pub fn step_on(
     saved: &mut [u32; 16],
     at: Counts,
     rows: &[u64; 254],
-    exact: &[u32],
-    alike: &[u32],
+    effects: &[u16; 4096],
     pairs: &[u16; 256],
     k: Step,
     called: Method,
     runs: Method,
 ) -> Moved
     requires { ⌜ Fine (stateOf (now labels) (now links) (now pool) (now saved) at) ⌝ }
-    requires { ⌜ ((P : Package) × (Equipped P (now rows) (now exact) (now alike) (now pairs) × Named P k called runs)) ⌝ }
-    ensures { λ m. ⌜ ((P : Package) → Equipped P (now (rows .entry)) (now (exact .entry)) (now (alike .entry)) (now (pairs .entry)) → Named P k called runs → Answers (λ t. step P t (stepView k .step)) (stateOf (now (labels .entry)) (now (links .entry)) (now (pool .entry)) (now (saved .entry)) at) (movedTo m (now (labels .exit)) (now (links .exit)) (now (pool .exit)) (now (saved .exit)))) ⌝ }
+    requires { ⌜ ((P : Package) × (Equipped P (now rows) (now effects) (now pairs) × Named P k called runs)) ⌝ }
+    ensures { λ m. ⌜ ((P : Package) → Equipped P (now (rows .entry)) (now (effects .entry)) (now (pairs .entry)) → Named P k called runs → Answers (λ t. step P t (stepView k .step)) (stateOf (now (labels .entry)) (now (links .entry)) (now (pool .entry)) (now (saved .entry)) at) (movedTo m (now (labels .exit)) (now (links .exit)) (now (pool .exit)) (now (saved .exit)))) ⌝ }
     ensures { λ m. ⌜ Fine (stateOf (now (labels .exit)) (now (links .exit)) (now (pool .exit)) (now (saved .exit)) (m .now)) ⌝ }
 {
     let x = k.b[1];
@@ -41,14 +40,14 @@ pub fn step_on(
     let z = k.b[3];
     match k.b[0] {
         0x20 => moves::widen(labels, at, rows, x, y),
-        0x21 => moves::new(labels, pool, at, exact, x, y),
-        0x22 => moves::checkcast(labels, pool, at, exact, rows, x, y),
-        0x23 => moves::getstatic(labels, links, at, alike, pairs, x, y),
-        0x24 => moves::putstatic(labels, links, at, alike, pairs, x, y),
-        0x25 => moves::getfield(labels, links, at, alike, pairs, rows, x, y, z),
-        0x26 => moves::putfield(labels, links, at, alike, pairs, rows, x, y, z),
-        0x27 => calls::invokestatic(labels, saved, at, exact, k, called),
-        0x28 => calls::invokemethod(labels, pool, saved, at, exact, rows, k, called, runs),
+        0x21 => moves::new(labels, pool, at, effects, x, y),
+        0x22 => moves::checkcast(labels, pool, at, effects, rows, x, y),
+        0x23 => moves::getstatic(labels, links, at, effects, pairs, x, y),
+        0x24 => moves::putstatic(labels, links, at, effects, pairs, x, y),
+        0x25 => moves::getfield(labels, links, at, effects, pairs, rows, x, y, z),
+        0x26 => moves::putfield(labels, links, at, effects, pairs, rows, x, y, z),
+        0x27 => calls::invokestatic(labels, saved, at, effects, k, called),
+        0x28 => calls::invokemethod(labels, pool, saved, at, effects, rows, k, called, runs),
         _ => calls::back(labels, saved, at, x),
     }
 }
@@ -57,16 +56,15 @@ pub fn step_on(
 pub fn step(
     s: State,
     rows: &[u64; 254],
-    exact: &[u32],
-    alike: &[u32],
+    effects: &[u16; 4096],
     pairs: &[u16; 256],
     k: Step,
     called: Method,
     runs: Method,
 ) -> Done
     requires { ⌜ Fine s ⌝ }
-    requires { ⌜ ((P : Package) × (Equipped P (now rows) (now exact) (now alike) (now pairs) × Named P k called runs)) ⌝ }
-    ensures { λ d. ⌜ ((P : Package) → Equipped P (now (rows .entry)) (now (exact .entry)) (now (alike .entry)) (now (pairs .entry)) → Named P k called runs → d ≡ doneOf s (step P (view s) (stepView k .step))) ⌝ }
+    requires { ⌜ ((P : Package) × (Equipped P (now rows) (now effects) (now pairs) × Named P k called runs)) ⌝ }
+    ensures { λ d. ⌜ ((P : Package) → Equipped P (now (rows .entry)) (now (effects .entry)) (now (pairs .entry)) → Named P k called runs → d ≡ doneOf s (step P (view s) (stepView k .step))) ⌝ }
     ensures { λ d. ⌜ Fine (d .state) ⌝ }
 {
     let mut labels = structs::labels_of(s);
@@ -81,8 +79,7 @@ pub fn step(
         &mut saved,
         at,
         rows,
-        exact,
-        alike,
+        effects,
         pairs,
         k,
         called,

@@ -25,15 +25,15 @@ counts-of-requires : tie.Need-counts-of-requires
 counts-of-requires c κs = search needs
 
 -- the rows and the counts mean the state
-same : (c : tie.After-counts-of) → stateOf (c .before .before .before .before .labels-of .result) (c .before .before .before .links-of .result) (c .before .before .before .before .before .before .before .args .s .pool) (c .before .saved-of .result) (c .counts-of .result) ≡ c .before .before .before .before .before .before .before .args .s
+same : (c : tie.After-counts-of) → stateOf (c .before .before .before .before .labels-of .result) (c .before .before .before .links-of .result) (c .before .before .before .before .before .args .s .pool) (c .before .saved-of .result) (c .counts-of .result) ≡ c .before .before .before .before .before .args .s
 same c =
     let ls = c .before .before .before .before .labels-of in
     let ks = c .before .before .before .links-of in
     let cs = c .before .saved-of in
-    rows-of (c .before .before .before .before .before .before .before .args .s) (ls .result) (ks .result) (cs .result) (c .counts-of .result) (ls .ensures) (ks .ensures) (cs .ensures) (c .counts-of .ensures)
+    rows-of (c .before .before .before .before .before .args .s) (ls .result) (ks .result) (cs .result) (c .counts-of .result) (ls .ensures) (ks .ensures) (cs .ensures) (c .counts-of .ensures)
 
 step-on-requires : tie.Need-step-on-requires
-step-on-requires c κs = (subst Fine (sym (same (c .before .before .before .before))) (c .before .before .before .before .before .before .before .before .before .before .before .pre .0), c .before .before .before .before .before .before .before .before .before .before .before .pre .1)
+step-on-requires c κs = (subst Fine (sym (same (c .before .before .before .before))) (c .before .before .before .before .before .before .before .before .before .pre .0), c .before .before .before .before .before .before .before .before .before .pre .1)
 
 state-from-requires : tie.Need-state-from-requires
 state-from-requires c κs = search needs
@@ -41,7 +41,7 @@ state-from-requires c κs = search needs
 returns : tie.Need-returns
 returns c =
     let m = c .before .before .before .before .step-on in
-    let start = c .before .before .before .before .before .before .before .before .before .before .before .before .before .before .before .before in
+    let start = c .before .before .before .before .before .before .before .before .before .before .before .before .before .before in
     let e = same (c .before .before .before .before .before .before .before .before .before) in
     let is = c .state-from .ensures (m .ensures .1) in (
       λ P q n.

@@ -29,103 +29,103 @@ new-requires : tie.Need-new-requires
 new-requires c κs = search needs
 
 checkcast-requires : tie.Need-checkcast-requires
-checkcast-requires c κs = let b = c .before .before .before .before .before .before .before .before .before in let f = b .pre .0 in let p = b .pre .1 in let e = p .1 .0 in ((f .labels, f .depth), (p .0, (e .effects, e .supers)))
+checkcast-requires c κs = let b = c .before .before .before .before .before .before .before in let f = b .pre .0 in let p = b .pre .1 in let e = p .1 .0 in ((f .labels, f .depth), (p .0, (e .permits, e .supers)))
 
 getstatic-requires : tie.Need-getstatic-requires
-getstatic-requires c κs = let b = c .before .before .before .before .before .before .before .before .before in let f = b .pre .0 in let p = b .pre .1 in let e = p .1 .0 in ((f .links, (f .labels, f .depth)), (p .0, (e .fields, e .likes)))
+getstatic-requires c κs = let b = c .before .before .before .before .before .before .before in let f = b .pre .0 in let p = b .pre .1 in let e = p .1 .0 in ((f .links, (f .labels, f .depth)), (p .0, (e .fields, e .permits)))
 
 putstatic-requires : tie.Need-putstatic-requires
-putstatic-requires c κs = let b = c .before .before .before .before .before .before .before .before .before in let f = b .pre .0 in let p = b .pre .1 in let e = p .1 .0 in ((f .links, (f .labels, f .depth)), (p .0, (e .fields, e .likes)))
+putstatic-requires c κs = let b = c .before .before .before .before .before .before .before in let f = b .pre .0 in let p = b .pre .1 in let e = p .1 .0 in ((f .links, (f .labels, f .depth)), (p .0, (e .fields, e .permits)))
 
 getfield-requires : tie.Need-getfield-requires
-getfield-requires c κs = let b = c .before .before .before .before .before .before .before .before .before in let f = b .pre .0 in let p = b .pre .1 in let e = p .1 .0 in ((f .links, (f .labels, f .depth)), (p .0, (e .fields, (e .likes, e .supers))))
+getfield-requires c κs = let b = c .before .before .before .before .before .before .before in let f = b .pre .0 in let p = b .pre .1 in let e = p .1 .0 in ((f .links, (f .labels, f .depth)), (p .0, (e .fields, (e .permits, e .supers))))
 
 putfield-requires : tie.Need-putfield-requires
-putfield-requires c κs = let b = c .before .before .before .before .before .before .before .before .before in let f = b .pre .0 in let p = b .pre .1 in let e = p .1 .0 in ((f .links, (f .labels, f .depth)), (p .0, (e .fields, (e .likes, e .supers))))
+putfield-requires c κs = let b = c .before .before .before .before .before .before .before in let f = b .pre .0 in let p = b .pre .1 in let e = p .1 .0 in ((f .links, (f .labels, f .depth)), (p .0, (e .fields, (e .permits, e .supers))))
 
 invokestatic-requires : tie.Need-invokestatic-requires
-invokestatic-requires c κs = let b = c .before .before .before .before .before .before .before .before .before in let f = b .pre .0 in let p = b .pre .1 in let e = p .1 .0 in ((b .args .links .now, (b .args .pool .now, f)), (p .0, (e .effects, p .1 .1 .first)))
+invokestatic-requires c κs = let b = c .before .before .before .before .before .before .before in let f = b .pre .0 in let p = b .pre .1 in let e = p .1 .0 in ((b .args .links .now, (b .args .pool .now, f)), (p .0, (e .permits, p .1 .1 .first)))
 
 invokemethod-requires : tie.Need-invokemethod-requires
-invokemethod-requires c κs = let b = c .before .before .before .before .before .before .before .before .before .before in let f = b .pre .0 in let p = b .pre .1 in let e = p .1 .0 in ((b .args .links .now, f), (p .0, (e .effects, (e .supers, (p .1 .1 .first, p .1 .1 .second)))))
+invokemethod-requires c κs = let b = c .before .before .before .before .before .before .before .before in let f = b .pre .0 in let p = b .pre .1 in let e = p .1 .0 in ((b .args .links .now, f), (p .0, (e .permits, (e .supers, (p .1 .1 .first, p .1 .1 .second)))))
 
 back-requires : tie.Need-back-requires
-back-requires c κs = let b = c .before .before .before .before .before .before .before .before .before in (b .args .links .now, (b .args .pool .now, b .pre .0))
+back-requires c κs = let b = c .before .before .before .before .before .before .before in (b .args .links .now, (b .args .pool .now, b .pre .0))
 
 -- the state of the rows that are lent
 abbrev lent : tie.Start → State
 lent b = stateOf (b .args .labels .now) (b .args .links .now) (b .args .pool .now) (b .args .saved .now) (b .args .at)
 
-meets : (b : tie.Start) (d : Done) → Stepped (lent b) (b .args .rows .now) (b .args .exact .now) (b .args .alike .now) (b .args .pairs .now) (b .args .t10) (b .args .called) (b .args .runs) d → Stepped (lent b) (b .args .rows .now) (b .args .exact .now) (b .args .alike .now) (b .args .pairs .now) (b .args .t10) (b .args .called) (b .args .runs) d × Fine (d .state)
-meets b d h = answered (lent b) (b .args .rows .now) (b .args .exact .now) (b .args .alike .now) (b .args .pairs .now) (b .args .t10) (b .args .called) (b .args .runs) d (b .pre .0) (b .pre .1) h
+meets : (b : tie.Start) (d : Done) → Stepped (lent b) (b .args .rows .now) (b .args .effects .now) (b .args .pairs .now) (b .args .t9) (b .args .called) (b .args .runs) d → Stepped (lent b) (b .args .rows .now) (b .args .effects .now) (b .args .pairs .now) (b .args .t9) (b .args .called) (b .args .runs) d × Fine (d .state)
+meets b d h = answered (lent b) (b .args .rows .now) (b .args .effects .now) (b .args .pairs .now) (b .args .t9) (b .args .called) (b .args .runs) d (b .pre .0) (b .pre .1) h
 
 returns : tie.Need-returns
 unfolding stepIn
 returns c =
-    let b = c .before .before .before .before .before .before .before .before .before in
+    let b = c .before .before .before .before .before .before .before in
     let a = b .args in
     meets b _ (λ P e n f. rw (c .before .before .match .keys1) (c .widen .ensures P (e .supers) (a .links .now) (a .pool .now) (a .saved .now) f))
 
 returns-2 : tie.Need-returns-2
 unfolding stepIn
 returns-2 c =
-    let b = c .before .before .before .before .before .before .before .before .before .before in
+    let b = c .before .before .before .before .before .before .before .before in
     let a = b .args in
-    meets b _ (λ P e n f. rw (c .before .before .before .match .keys2) (c .new .ensures P (e .effects) (a .links .now) (a .saved .now) f))
+    meets b _ (λ P e n f. rw (c .before .before .before .match .keys2) (c .new .ensures P (e .permits) (a .links .now) (a .saved .now) f))
 
 returns-3 : tie.Need-returns-3
 unfolding stepIn
 returns-3 c =
-    let b = c .before .before .before .before .before .before .before .before .before .before in
+    let b = c .before .before .before .before .before .before .before .before in
     let a = b .args in
-    meets b _ (λ P e n f. rw (c .before .before .before .match .keys3) (c .checkcast .ensures P (e .effects) (e .supers) (a .links .now) (a .saved .now) f))
+    meets b _ (λ P e n f. rw (c .before .before .before .match .keys3) (c .checkcast .ensures P (e .permits) (e .supers) (a .links .now) (a .saved .now) f))
 
 returns-4 : tie.Need-returns-4
 unfolding stepIn
 returns-4 c =
-    let b = c .before .before .before .before .before .before .before .before .before .before in
+    let b = c .before .before .before .before .before .before .before .before in
     let a = b .args in
-    meets b _ (λ P e n f. rw (c .before .before .before .match .keys4) (c .getstatic .ensures P (e .fields) (e .likes) (a .pool .now) (a .saved .now) f))
+    meets b _ (λ P e n f. rw (c .before .before .before .match .keys4) (c .getstatic .ensures P (e .fields) (e .permits) (a .pool .now) (a .saved .now) f))
 
 returns-5 : tie.Need-returns-5
 unfolding stepIn
 returns-5 c =
-    let b = c .before .before .before .before .before .before .before .before .before .before in
+    let b = c .before .before .before .before .before .before .before .before in
     let a = b .args in
-    meets b _ (λ P e n f. rw (c .before .before .before .match .keys5) (c .putstatic .ensures P (e .fields) (e .likes) (a .pool .now) (a .saved .now) f))
+    meets b _ (λ P e n f. rw (c .before .before .before .match .keys5) (c .putstatic .ensures P (e .fields) (e .permits) (a .pool .now) (a .saved .now) f))
 
 returns-6 : tie.Need-returns-6
 unfolding stepIn
 returns-6 c =
-    let b = c .before .before .before .before .before .before .before .before .before .before in
+    let b = c .before .before .before .before .before .before .before .before in
     let a = b .args in
-    meets b _ (λ P e n f. rw (c .before .before .before .match .keys6) (c .getfield .ensures P (e .fields) (e .likes) (e .supers) (a .pool .now) (a .saved .now) f))
+    meets b _ (λ P e n f. rw (c .before .before .before .match .keys6) (c .getfield .ensures P (e .fields) (e .permits) (e .supers) (a .pool .now) (a .saved .now) f))
 
 returns-7 : tie.Need-returns-7
 unfolding stepIn
 returns-7 c =
-    let b = c .before .before .before .before .before .before .before .before .before .before in
+    let b = c .before .before .before .before .before .before .before .before in
     let a = b .args in
-    meets b _ (λ P e n f. rw (c .before .before .before .match .keys7) (c .putfield .ensures P (e .fields) (e .likes) (e .supers) (a .pool .now) (a .saved .now) f))
+    meets b _ (λ P e n f. rw (c .before .before .before .match .keys7) (c .putfield .ensures P (e .fields) (e .permits) (e .supers) (a .pool .now) (a .saved .now) f))
 
 returns-8 : tie.Need-returns-8
 unfolding stepIn
 returns-8 c =
-    let b = c .before .before .before .before .before .before .before .before .before .before in
+    let b = c .before .before .before .before .before .before .before .before in
     let a = b .args in
-    meets b _ (λ P e n f. rw (c .before .before .before .match .keys8) (c .invokestatic .ensures P (e .effects) (n .first) (a .links .now) (a .pool .now) f))
+    meets b _ (λ P e n f. rw (c .before .before .before .match .keys8) (c .invokestatic .ensures P (e .permits) (n .first) (a .links .now) (a .pool .now) f))
 
 returns-9 : tie.Need-returns-9
 unfolding stepIn
 returns-9 c =
-    let b = c .before .before .before .before .before .before .before .before .before .before .before in
+    let b = c .before .before .before .before .before .before .before .before .before in
     let a = b .args in
-    meets b _ (λ P e n f. rw (c .before .before .before .before .match .keys9) (c .invokemethod .ensures P (e .effects) (e .supers) (n .first) (n .second) (a .links .now) f))
+    meets b _ (λ P e n f. rw (c .before .before .before .before .match .keys9) (c .invokemethod .ensures P (e .permits) (e .supers) (n .first) (n .second) (a .links .now) f))
 
 returns-10 : tie.Need-returns-10
 unfolding stepIn
 returns-10 c =
-    let b = c .before .before .before .before .before .before .before .before .before .before in
+    let b = c .before .before .before .before .before .before .before .before in
     let a = b .args in
     let r = c .before .before .before .match .rest in
     meets b _ (λ P e n f. rw (ne-eqb _ _ (r .0 .0 .0 .0 .0 .0 .0 .0 .1), ne-eqb _ _ (r .0 .0 .0 .0 .0 .0 .0 .1), ne-eqb _ _ (r .0 .0 .0 .0 .0 .0 .1), ne-eqb _ _ (r .0 .0 .0 .0 .0 .1), ne-eqb _ _ (r .0 .0 .0 .0 .1), ne-eqb _ _ (r .0 .0 .0 .1), ne-eqb _ _ (r .0 .0 .1), ne-eqb _ _ (r .0 .1), ne-eqb _ _ (r .1)) (c .back .ensures P (a .links .now) (a .pool .now) f))

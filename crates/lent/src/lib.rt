@@ -14,19 +14,18 @@ use tables::Method;
 pub fn step_in_place(
     s: &mut State,
     rows: &[u64; 254],
-    exact: &[u32],
-    alike: &[u32],
+    effects: &[u16; 4096],
     pairs: &[u16; 256],
     k: Step,
     called: Method,
     runs: Method,
 ) -> u8
     requires { ⌜ Fine (now s) ⌝ }
-    requires { ⌜ ((P : Package) × (Equipped P (now rows) (now exact) (now alike) (now pairs) × Named P k called runs)) ⌝ }
-    ensures { λ x. ⌜ ((P : Package) → Equipped P (now (rows .entry)) (now (exact .entry)) (now (alike .entry)) (now (pairs .entry)) → Named P k called runs → record { code = x; state = now (s .exit) } ≡ doneOf (now (s .entry)) (step P (view (now (s .entry))) (stepView k .step))) ⌝ }
+    requires { ⌜ ((P : Package) × (Equipped P (now rows) (now effects) (now pairs) × Named P k called runs)) ⌝ }
+    ensures { λ x. ⌜ ((P : Package) → Equipped P (now (rows .entry)) (now (effects .entry)) (now (pairs .entry)) → Named P k called runs → record { code = x; state = now (s .exit) } ≡ doneOf (now (s .entry)) (step P (view (now (s .entry))) (stepView k .step))) ⌝ }
     ensures { λ x. ⌜ Fine (now (s .exit)) ⌝ }
 {
-    let d = machine::step(*s, rows, exact, alike, pairs, k, called, runs);
+    let d = machine::step(*s, rows, effects, pairs, k, called, runs);
     *s = d.state;
     d.code
 }

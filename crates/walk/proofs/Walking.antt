@@ -41,8 +41,8 @@ use Rattle.walk.specs.declared.Outcome.{Outcome}
 use Rattle.walk.specs.Walk.{Walk, outcomeOf}
 
 -- what is known of a run from one name of its start is known from another
-pub from-same : {rows exact alike pairs : List ℕ} {methods : Methods} {steps : Steps} {s t : State} {x : Outcome} → s ≡ t → ((v : Walk rows exact alike pairs methods s steps) → x ≡ outcomeOf (runFrom (v .loaded) (v .begun .state) 0 (stepsView steps))) → (w : Walk rows exact alike pairs methods t steps) → x ≡ outcomeOf (runFrom (w .loaded) (w .begun .state) 0 (stepsView steps))
-from-same {rows} {exact} {alike} {pairs} {methods} {steps} {x = x} e h = subst (λ (s : State). (v : Walk rows exact alike pairs methods s steps) → x ≡ outcomeOf (runFrom (v .loaded) (v .begun .state) 0 (stepsView steps))) e h
+pub from-same : {rows effects pairs : List ℕ} {methods : Methods} {steps : Steps} {s t : State} {x : Outcome} → s ≡ t → ((v : Walk rows effects pairs methods s steps) → x ≡ outcomeOf (runFrom (v .loaded) (v .begun .state) 0 (stepsView steps))) → (w : Walk rows effects pairs methods t steps) → x ≡ outcomeOf (runFrom (w .loaded) (w .begun .state) 0 (stepsView steps))
+from-same {rows} {effects} {pairs} {methods} {steps} {x = x} e h = subst (λ (s : State). (v : Walk rows effects pairs methods s steps) → x ≡ outcomeOf (runFrom (v .loaded) (v .begun .state) 0 (stepsView steps))) e h
 
 -- a refusal has a number
 missing-number : {P : Package} {s : M.State} {k : M.Step} {x : ℕ} → FirstMissing P s k x → x ≡ 0 → ⊥
@@ -51,7 +51,7 @@ missing-number (FirstMissing.effect n) e = omega arith
 missing-number (FirstMissing.premise h p n) e = omega arith
 missing-number (FirstMissing.room m n) e = omega arith
 
-module _ {rows exact alike pairs : List ℕ} {methods : Methods} {start : State} {steps : Steps} (w : Walk rows exact alike pairs methods start steps) where
+module _ {rows effects pairs : List ℕ} {methods : Methods} {start : State} {steps : Steps} (w : Walk rows effects pairs methods start steps) where
   abbrev P : Package
   P = w .loaded
 

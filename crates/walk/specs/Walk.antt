@@ -30,10 +30,10 @@ pub record Begun (P : Package) (start : State) (steps : Steps) : Type 0 where
   pub proper : Proper (stepsView steps)
 
 -- and the arrays of a package
-pub record Walk (rows exact alike pairs : List ℕ) (methods : Methods) (start : State) (steps : Steps) : Type 0 where
+pub record Walk (rows effects pairs : List ℕ) (methods : Methods) (start : State) (steps : Steps) : Type 0 where
   pub loaded : Package
   pub good : Good loaded
-  pub arrays : Equipped loaded rows exact alike pairs
+  pub arrays : Equipped loaded rows effects pairs
   pub methods-are : methods ≡ packMethods (loaded .methods)
   pub begun : Begun loaded start steps
 

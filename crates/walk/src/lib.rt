@@ -59,12 +59,11 @@ fn take(
     steps: Steps,
     methods: Methods,
     rows: &[u64; 254],
-    exact: &[u32],
-    alike: &[u32],
+    effects: &[u16; 4096],
     pairs: &[u16; 256],
 ) -> Walked
-    requires { ⌜ Walk (now rows) (now exact) (now alike) (now pairs) methods (stateOf (now labels) (now links) (now pool) (now saved) at) steps ⌝ }
-    ensures { λ r. ⌜ ((w : Walk (now (rows .entry)) (now (exact .entry)) (now (alike .entry)) (now (pairs .entry)) methods (stateOf (now (labels .entry)) (now (links .entry)) (now (pool .entry)) (now (saved .entry)) at) steps) → walkedTo r (now (labels .exit)) (now (links .exit)) (now (pool .exit)) (now (saved .exit)) ≡ outcomeOf (runFrom (w .loaded) (w .begun .state) 0 (stepsView steps))) ⌝ }
+    requires { ⌜ Walk (now rows) (now effects) (now pairs) methods (stateOf (now labels) (now links) (now pool) (now saved) at) steps ⌝ }
+    ensures { λ r. ⌜ ((w : Walk (now (rows .entry)) (now (effects .entry)) (now (pairs .entry)) methods (stateOf (now (labels .entry)) (now (links .entry)) (now (pool .entry)) (now (saved .entry)) at) steps) → walkedTo r (now (labels .exit)) (now (links .exit)) (now (pool .exit)) (now (saved .exit)) ≡ outcomeOf (runFrom (w .loaded) (w .begun .state) 0 (stepsView steps))) ⌝ }
     ensures { λ r. ⌜ Fine (stateOf (now (labels .exit)) (now (links .exit)) (now (pool .exit)) (now (saved .exit)) (r .now)) ⌝ }
 {
     let mut now = at;
@@ -77,8 +76,7 @@ fn take(
             saved,
             now,
             rows,
-            exact,
-            alike,
+            effects,
             pairs,
             k,
             methods.at[wide(k.b[1])],
@@ -97,12 +95,11 @@ pub fn walk(
     steps: Steps,
     methods: Methods,
     rows: &[u64; 254],
-    exact: &[u32],
-    alike: &[u32],
+    effects: &[u16; 4096],
     pairs: &[u16; 256],
 ) -> Outcome
-    requires { ⌜ Walk (now rows) (now exact) (now alike) (now pairs) methods start steps ⌝ }
-    ensures { λ r. ⌜ ((w : Walk (now (rows .entry)) (now (exact .entry)) (now (alike .entry)) (now (pairs .entry)) methods start steps) → r ≡ outcomeOf (runFrom (w .loaded) (w .begun .state) 0 (stepsView steps))) ⌝ }
+    requires { ⌜ Walk (now rows) (now effects) (now pairs) methods start steps ⌝ }
+    ensures { λ r. ⌜ ((w : Walk (now (rows .entry)) (now (effects .entry)) (now (pairs .entry)) methods start steps) → r ≡ outcomeOf (runFrom (w .loaded) (w .begun .state) 0 (stepsView steps))) ⌝ }
 {
     let mut labels = structs::labels_of(start);
     let mut links = structs::links_of(start);
@@ -118,8 +115,7 @@ pub fn walk(
         steps,
         methods,
         rows,
-        exact,
-        alike,
+        effects,
         pairs,
     );
     Outcome {

@@ -13,11 +13,11 @@ use Rattle.walk.proofs.take.Statement.{statement}
 use Rattle.walk.proofs.take.Tie as tie
 
 abbrev Inv-loop : tie.InvT-loop
-Inv-loop labels₀ links₀ pool₀ saved₀ rows exact alike pairs steps methods now₀ i₀ i-end labels links pool saved now i =
-    (i ≤ steps .n) × ((w : Walk rows exact alike pairs methods (stateOf labels₀ links₀ pool₀ saved₀ now₀) steps) → At w i (stateOf labels links pool saved now))
+Inv-loop labels₀ links₀ pool₀ saved₀ rows effects pairs steps methods now₀ i₀ i-end labels links pool saved now i =
+    (i ≤ steps .n) × ((w : Walk rows effects pairs methods (stateOf labels₀ links₀ pool₀ saved₀ now₀) steps) → At w i (stateOf labels links pool saved now))
 
 abbrev μ-loop : tie.MeasureT-loop
-μ-loop labels₀ links₀ pool₀ saved₀ rows exact alike pairs steps methods now₀ i₀ i-end labels links pool saved now i = steps .n - i
+μ-loop labels₀ links₀ pool₀ saved₀ rows effects pairs steps methods now₀ i₀ i-end labels links pool saved now i = steps .n - i
 
 -- the steps lie within their array
 fits : (c : tie.Start Inv-loop μ-loop) → c .args .t6 .n ≤ 1024
@@ -27,10 +27,10 @@ loop-holds : tie.Need-loop-holds Inv-loop μ-loop
 loop-holds c = (omega arith, at-start)
 
 mul-k : tie.Need-mul-k Inv-loop μ-loop
-mul-k c = omega (arith, fits (c .before .before .before .before))
+mul-k c = omega (arith, fits (c .before .before))
 
 element-copy-out-k : tie.Need-element-copy-out-k Inv-loop μ-loop
-element-copy-out-k c = omega (arith, fits (c .before .before .before .before))
+element-copy-out-k c = omega (arith, fits (c .before .before))
 
 element-copy-out-wide : tie.Need-element-copy-out-wide Inv-loop μ-loop
 element-copy-out-wide c = search needs
@@ -58,16 +58,16 @@ element-copy-out-step-on-2 c = c .wide2 .ensures .1
 
 step-on-requires : tie.Need-step-on-requires Inv-loop μ-loop
 step-on-requires c κs =
-    let w = c .before .before .before .before .before .before .before .before .before .before .before .before .before .before .before .pre in
+    let w = c .before .before .before .before .before .before .before .before .before .before .before .before .before .pre in
     (at-fine w (c .before .before .before .before .before .before .before .before .before .before .before .before .loop .inv .1 w), (w .loaded, (w .arrays, (record { first = row-at w _ _ _ (c .before .before .before .before .wide .ensures); second = row-at w _ _ _ (c .before .wide2 .ensures) }))))
 
 ended-requires : tie.Need-ended-requires Inv-loop μ-loop
-ended-requires c κs = omega (arith, fits (c .before .before .before .before .before .before .before .before .before .before .before .before .before .before .before .before .before .before), c .before .before .before .before .before .before .before .before .before .before .before .before .before .before .loop-test .taken)
+ended-requires c κs = omega (arith, fits (c .before .before .before .before .before .before .before .before .before .before .before .before .before .before .before .before), c .before .before .before .before .before .before .before .before .before .before .before .before .before .before .loop-test .taken)
 
 returns : tie.Need-returns Inv-loop μ-loop
 returns c =
     let s = c .before .before .before .before .before .before .before .before .before .before .before .before .before .before .before .before in
-    let start = c .before .before .before .before .before .before .before .before .before .before .before .before .before .before .before .before .before .before .before in
+    let start = c .before .before .before .before .before .before .before .before .before .before .before .before .before .before .before .before .before in
     let o = c .before .before .before .step-on in
     rw (c .ended .ensures) (
       λ w.
@@ -78,7 +78,7 @@ returns c =
     )
 
 add-i : tie.Need-add-i Inv-loop μ-loop
-add-i c = let q : c .before .before .before .before .before .before .before .before .before .before .before .before .before .before .before .before .loop .i < c .before .before .before .before .before .before .before .before .before .before .before .before .before .before .before .before .before .before .before .args .t6 .n = c .before .before .before .before .before .before .before .before .before .before .before .before .before .before .before .loop-test .taken in omega (arith, fits (c .before .before .before .before .before .before .before .before .before .before .before .before .before .before .before .before .before .before .before))
+add-i c = let q : c .before .before .before .before .before .before .before .before .before .before .before .before .before .before .before .before .loop .i < c .before .before .before .before .before .before .before .before .before .before .before .before .before .before .before .before .before .args .t6 .n = c .before .before .before .before .before .before .before .before .before .before .before .before .before .before .before .loop-test .taken in omega (arith, fits (c .before .before .before .before .before .before .before .before .before .before .before .before .before .before .before .before .before))
 
 loop-less : tie.Need-loop-less Inv-loop μ-loop
 loop-less c = omega arith
@@ -86,7 +86,7 @@ loop-less c = omega arith
 loop-again : tie.Need-loop-again Inv-loop μ-loop
 loop-again c =
     let s = c .before .before .before .before .before .before .before .before .before .before .before .before .before .before .before .before in
-    let start = c .before .before .before .before .before .before .before .before .before .before .before .before .before .before .before .before .before .before .before in
+    let start = c .before .before .before .before .before .before .before .before .before .before .before .before .before .before .before .before .before in
     let o = c .before .before .before .step-on in
     let q : s .loop .i < start .args .t6 .n = c .before .before .before .before .before .before .before .before .before .before .before .before .before .before .before .loop-test .taken in
     let z : s .loop .i + 1 ≤ start .args .t6 .n = omega arith in (
@@ -98,12 +98,12 @@ loop-again c =
     )
 
 ended-requires-2 : tie.Need-ended-requires-2 Inv-loop μ-loop
-ended-requires-2 c κs = fits (c .before .before .before .before)
+ended-requires-2 c κs = fits (c .before .before)
 
 returns-2 : tie.Need-returns-2 Inv-loop μ-loop
 returns-2 c =
     let s = c .before .before in
-    let start = c .before .before .before .before .before in
+    let start = c .before .before .before in
     let e : s .loop .i ≡ start .args .t6 .n = omega (arith, s .loop .inv .0, c .before .loop-test .left) in
     let t = stateOf (s .loop .labels) (s .loop .links) (s .loop .pool) (s .loop .saved) (s .loop .now) in
     rw (c .ended2 .ensures) (

@@ -17,23 +17,23 @@ links-of-requires : tie.Need-links-of-requires
 links-of-requires c κs = search needs
 
 saved-of-requires : tie.Need-saved-of-requires
-saved-of-requires c κs = at-fine (c .before .before .before .before .before .pre) (at-start (c .before .before .before .before .before .pre))
+saved-of-requires c κs = at-fine (c .before .before .before .pre) (at-start (c .before .before .before .pre))
 
 counts-of-requires : tie.Need-counts-of-requires
 counts-of-requires c κs = search needs
 
 -- the rows and the counts mean the start
-same : (c : tie.After-counts-of) → stateOf (c .before .before .before .before .labels-of .result) (c .before .before .before .links-of .result) (c .before .before .before .before .before .before .before .args .start .pool) (c .before .saved-of .result) (c .counts-of .result) ≡ c .before .before .before .before .before .before .before .args .start
+same : (c : tie.After-counts-of) → stateOf (c .before .before .before .before .labels-of .result) (c .before .before .before .links-of .result) (c .before .before .before .before .before .args .start .pool) (c .before .saved-of .result) (c .counts-of .result) ≡ c .before .before .before .before .before .args .start
 same c =
     let ls = c .before .before .before .before .labels-of in
     let ks = c .before .before .before .links-of in
     let cs = c .before .saved-of in
-    rows-of (c .before .before .before .before .before .before .before .args .start) (ls .result) (ks .result) (cs .result) (c .counts-of .result) (ls .ensures) (ks .ensures) (cs .ensures) (c .counts-of .ensures)
+    rows-of (c .before .before .before .before .before .args .start) (ls .result) (ks .result) (cs .result) (c .counts-of .result) (ls .ensures) (ks .ensures) (cs .ensures) (c .counts-of .ensures)
 
 take-requires : tie.Need-take-requires
 take-requires c κs =
-    let a = c .before .before .before .before .before .before .before .before .before .before .before .args in
-    subst (λ (s : State). Walk (a .rows .now) (a .exact .now) (a .alike .now) (a .pairs .now) (a .methods) s (a .steps)) (sym (same (c .before .before .before .before))) (c .before .before .before .before .before .before .before .before .before .before .before .pre)
+    let a = c .before .before .before .before .before .before .before .before .before .args in
+    subst (λ (s : State). Walk (a .rows .now) (a .effects .now) (a .pairs .now) (a .methods) s (a .steps)) (sym (same (c .before .before .before .before))) (c .before .before .before .before .before .before .before .before .before .pre)
 
 state-from-requires : tie.Need-state-from-requires
 state-from-requires c κs = search needs

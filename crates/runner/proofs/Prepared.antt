@@ -2,20 +2,17 @@
 -- Assumes nothing.
 use Prim.Native.Nat.{ℕ, _≤_}
 use native.Mathlib.Omega.{arith}
-use mathlib.Core.Path.{_≡_, ap, _∙_}
-use mathlib.Core.List.{List, map}
-use lib.ListN.{length, take, length-map}
+use mathlib.Core.Path.{_≡_, ap}
+use mathlib.Core.List.{List}
 use Rattle.tables.specs.declared.Tables.{Tables}
 use Rattle.tables.specs.View.{classesView, fieldsView, methodsView, effectsView, view}
 use Rattle.tables.specs.Pack.{pack}
 use Rattle.tables.specs.Held.{Held}
-use Rattle.tables.proofs.Pack.{pad-length}
 use Rattle.tables.proofs.Views as Views
 use Rattle.homes.specs.Homes.{homesOf, ownersOf}
 use Rattle.homes.proofs.Laws.{home-at, owner-at}
-use Rattle.permits.specs.declared.KeyTable.{KeyTable}
-use Rattle.permits.specs.Keys.{pairsOf, exactOf, alikeOf}
-use Rattle.permits.specs.Made.{keysOf}
+use Rattle.permits.specs.Fields.{pairsOf}
+use Rattle.permits.specs.Chains.{chainsOf}
 use Rattle.moves.specs.Below.{Supers}
 use Rattle.machine.proofs.Prepared.{held-equipped}
 use Rattle.holdings.specs.Held.{Looked}
@@ -43,11 +40,10 @@ module _ (t : Tables) (h : Held t) where
   looked o d = record { few = h .good .few-classes; owner = λ m. rw o (owner-at (view t) m); domain = λ c. rw d (home-at (view t) c) }
 
   -- what a run walks over
-  unfoldable pub walks : {rows pairs : List ℕ} {keys : KeyTable} {start : State} {steps : Steps} → Supers (view t) rows → pairs ≡ pairsOf (fieldsView (t .fields)) → keys ≡ keysOf pairs (effectsView (t .effects))
-      → Begun (view t) start steps → Walk rows (take (keys .n) (keys .exact)) (take (keys .n) (keys .alike)) pairs (t .methods) start steps
+  unfoldable pub walks : {rows effects pairs : List ℕ} {start : State} {steps : Steps} → Supers (view t) rows → pairs ≡ pairsOf (fieldsView (t .fields)) → effects ≡ chainsOf (effectsView (t .effects))
+      → Begun (view t) start steps → Walk rows effects pairs (t .methods) start steps
   unfolding pack
-  walks {rows} {pairs} {keys} s p k b =
-      let e : keys ≡ keysOf (pairsOf (fieldsView (t .fields))) (effectsView (t .effects)) = k ∙ ap (λ (x : List ℕ). keysOf x (effectsView (t .effects))) p in
+  walks s p e b =
       record {
         loaded = view t;
         good = h .good;
@@ -55,12 +51,3 @@ module _ (t : Tables) (h : Held t) where
         methods-are = ap (λ (x : Tables). x .methods) (h .packed);
         begun = b;
       }
-
-  -- the keys lie within their arrays
-  pub few-exact : (pairs : List ℕ) {keys : KeyTable} → keys ≡ keysOf pairs (effectsView (t .effects)) → keys .n ≤ length (keys .exact)
-  unfolding keysOf view
-  few-exact pairs e = rw e (omega (arith, h .good .few-effects, pad-length 0 1024 (map exactOf (effectsView (t .effects))) (rw (length-map (effectsView (t .effects)) exactOf) (h .good .few-effects))))
-
-  pub few-alike : (pairs : List ℕ) {keys : KeyTable} → keys ≡ keysOf pairs (effectsView (t .effects)) → keys .n ≤ length (keys .alike)
-  unfolding keysOf view
-  few-alike pairs e = rw e (omega (arith, h .good .few-effects, pad-length 0 1024 (map (alikeOf pairs) (effectsView (t .effects))) (rw (length-map (effectsView (t .effects)) (alikeOf pairs)) (h .good .few-effects))))

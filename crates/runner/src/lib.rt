@@ -15,7 +15,7 @@ ghost use Rattle.steps.specs.View.{stepsView};
 ghost use Rattle.moves.specs.Below.{Supers};
 ghost use Rattle.holdings.specs.Lines.{Put};
 ghost use Rattle.walk.specs.Walk.{Begun, outcomeOf};
-ghost use Rattle.runner.specs.Answers.{answerWith, ranAs, Leaves};
+ghost use Rattle.runner.specs.Answers.{ranAs, Leaves};
 use state::State;
 use steps::Steps;
 use tables::Tables;
@@ -48,23 +48,9 @@ fn take_steps(t: Tables, rows: &[u64; 254], start: State, steps: Steps) -> Outco
     requires { ⌜ Begun (view t) start steps ⌝ }
     ensures { λ r. ⌜ ((b : Begun (view t) start steps) → r ≡ outcomeOf (runFrom (view t) (b .state) 0 (stepsView steps))) ⌝ }
 {
-    let fields = t.fields;
-    let effects = t.effects;
-    let methods = t.methods;
-    let pairs = permits::pairs(fields);
-    let keys = permits::keys(effects, &pairs);
-    let n = keys.n;
-    let exact = keys.exact;
-    let alike = keys.alike;
-    walk::walk(
-        start,
-        steps,
-        methods,
-        rows,
-        &exact[..n],
-        &alike[..n],
-        &pairs,
-    )
+    let pairs = permits::pairs(t.fields);
+    let effects = permits::chains(t.effects);
+    walk::walk(start, steps, t.methods, rows, &effects, &pairs)
 }
 
 // The holdings of a state, by the tables' own domains.

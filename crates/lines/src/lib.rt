@@ -56,7 +56,7 @@ pub fn line_into(digits: &[u32; 512], s: &[u8], c: Cursor, section: u8, b: &mut 
     if (0 < section) & (section < 0x20) {
         return text::no_line(at, b); // each section before the steps' has one kind
     }
-    let kind = text::kind_of(x);
+    let kind = text::row_of(x);
     if kind.section != section {
         return text::no_line(at, b);
     }

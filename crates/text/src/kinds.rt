@@ -48,6 +48,69 @@ pub(crate) const EFFECT: Kind = Kind {
     counter: 0,
 };
 
+// 11 rr cc
+pub(crate) const OBJECT: Kind = Kind {
+    section: 0x11,
+    size: 3,
+    counter: 0,
+};
+
+// 12 cc tt qq
+pub(crate) const STATIC_LINK: Kind = Kind {
+    section: 0x12,
+    size: 4,
+    counter: 0,
+};
+
+// 13 pp cc tt qq
+pub(crate) const OBJECT_LINK: Kind = Kind {
+    section: 0x13,
+    size: 5,
+    counter: 0,
+};
+
+// 14 rr cc
+pub(crate) const LABEL: Kind = Kind {
+    section: 0x14,
+    size: 3,
+    counter: 0,
+};
+
+// 20 rr bb to 22, and 23 ff qq and 24
+pub(crate) const STEP: Kind = Kind {
+    section: 0x20,
+    size: 3,
+    counter: 0,
+};
+
+// 25 ff pp qq, and 26
+pub(crate) const FIELD_STEP: Kind = Kind {
+    section: 0x20,
+    size: 4,
+    counter: 0,
+};
+
+// 27 nn k r..
+pub(crate) const STATIC_CALL: Kind = Kind {
+    section: 0x20,
+    size: 3,
+    counter: 2,
+};
+
+// 28 nn vv r0 k r..
+pub(crate) const METHOD_CALL: Kind = Kind {
+    section: 0x20,
+    size: 5,
+    counter: 4,
+};
+
+// 29 rr
+pub(crate) const RETURN: Kind = Kind {
+    section: 0x20,
+    size: 2,
+    counter: 0,
+};
+
 // At each kind's own number.
 pub(crate) const KINDS: [Kind; 48] = [
     NONE,
@@ -82,30 +145,10 @@ pub(crate) const KINDS: [Kind; 48] = [
         size: 2,
         counter: 0,
     },
-    // 11 rr cc
-    Kind {
-        section: 0x11,
-        size: 3,
-        counter: 0,
-    },
-    // 12 cc tt qq
-    Kind {
-        section: 0x12,
-        size: 4,
-        counter: 0,
-    },
-    // 13 pp cc tt qq
-    Kind {
-        section: 0x13,
-        size: 5,
-        counter: 0,
-    },
-    // 14 rr cc
-    Kind {
-        section: 0x14,
-        size: 3,
-        counter: 0,
-    },
+    OBJECT,
+    STATIC_LINK,
+    OBJECT_LINK,
+    LABEL,
     NONE,
     NONE,
     NONE,
@@ -117,66 +160,16 @@ pub(crate) const KINDS: [Kind; 48] = [
     NONE,
     NONE,
     NONE,
-    // 20 rr bb
-    Kind {
-        section: 0x20,
-        size: 3,
-        counter: 0,
-    },
-    // 21 rr bb
-    Kind {
-        section: 0x20,
-        size: 3,
-        counter: 0,
-    },
-    // 22 rr bb
-    Kind {
-        section: 0x20,
-        size: 3,
-        counter: 0,
-    },
-    // 23 ff qq
-    Kind {
-        section: 0x20,
-        size: 3,
-        counter: 0,
-    },
-    // 24 ff qq
-    Kind {
-        section: 0x20,
-        size: 3,
-        counter: 0,
-    },
-    // 25 ff pp qq
-    Kind {
-        section: 0x20,
-        size: 4,
-        counter: 0,
-    },
-    // 26 ff pp qq
-    Kind {
-        section: 0x20,
-        size: 4,
-        counter: 0,
-    },
-    // 27 nn k r..
-    Kind {
-        section: 0x20,
-        size: 3,
-        counter: 2,
-    },
-    // 28 nn vv r0 k r..
-    Kind {
-        section: 0x20,
-        size: 5,
-        counter: 4,
-    },
-    // 29 rr
-    Kind {
-        section: 0x20,
-        size: 2,
-        counter: 0,
-    },
+    STEP,
+    STEP,
+    STEP,
+    STEP,
+    STEP,
+    FIELD_STEP,
+    FIELD_STEP,
+    STATIC_CALL,
+    METHOD_CALL,
+    RETURN,
     NONE,
     NONE,
     NONE,

@@ -10,11 +10,20 @@ ghost use Rattle.text.specs.Values.{digitTable, byteAt};
 use crate::kinds::CLASS;
 use crate::kinds::EFFECT;
 use crate::kinds::FIELD;
+use crate::kinds::FIELD_STEP;
 use crate::kinds::KINDS;
 use crate::kinds::Kind;
+use crate::kinds::LABEL;
 use crate::kinds::METHOD;
+use crate::kinds::METHOD_CALL;
 use crate::kinds::NONE;
+use crate::kinds::OBJECT;
+use crate::kinds::OBJECT_LINK;
 use crate::kinds::PAIR;
+use crate::kinds::RETURN;
+use crate::kinds::STATIC_CALL;
+use crate::kinds::STATIC_LINK;
+use crate::kinds::STEP;
 
 pub mod kinds;
 
@@ -55,8 +64,8 @@ pub fn kind_of(b: u8) -> Kind
     KINDS[i]
 }
 
-// The same, for the kinds of most lines of a package without the table: it is laid out anew wherever it is looked at.
-fn row_of(b: u8) -> Kind
+// The same, for the kinds of most lines without the table: it is laid out anew wherever it is looked at.
+pub fn row_of(b: u8) -> Kind
     ensures { λ r. ⌜ r ≡ kindIn (rowOf b) ⌝ }
 {
     match b {
@@ -65,6 +74,20 @@ fn row_of(b: u8) -> Kind
         4 => FIELD,
         5 => METHOD,
         6 => EFFECT,
+        0x11 => OBJECT,
+        0x12 => STATIC_LINK,
+        0x13 => OBJECT_LINK,
+        0x14 => LABEL,
+        0x20 => STEP,
+        0x21 => STEP,
+        0x22 => STEP,
+        0x23 => STEP,
+        0x24 => STEP,
+        0x25 => FIELD_STEP,
+        0x26 => FIELD_STEP,
+        0x27 => STATIC_CALL,
+        0x28 => METHOD_CALL,
+        0x29 => RETURN,
         _ => kind_of(b),
     }
 }

@@ -47,8 +47,8 @@ returns-4 c =
     let one = early _ (c .before .before .if4 .taken) in
     said-as (c .no-line2 .ensures) (line-none _ _ _ (next-other _ _ _ (t .f) (c .before .before .before .before .before .before .before .before .if1 .left) (t .framed) (λ e. c .before .before .before .if3 .left (sym (cut-byte t 0 (lit< tt)) ∙ row-alone _ _ (one .0) (one .1) e))))
 
-kind-of-requires : tie.Need-kind-of-requires
-kind-of-requires c κs = search needs
+row-of-requires : tie.Need-row-of-requires
+row-of-requires c κs = search needs
 
 no-line-requires-3 : tie.Need-no-line-requires-3
 no-line-requires-3 c κs = search needs
@@ -57,13 +57,13 @@ returns-5 : tie.Need-returns-5
 returns-5 c =
     let w = c .before .before .before .before .before .before .before .before .before .scan-into .ensures in
     let t = cut-taken _ _ (said-cut w) (not-false _ (c .before .before .before .before .before .before .before .before .if2 .left)) in
-    said-as (c .no-line3 .ensures) (line-none _ _ _ (next-other _ _ _ (t .f) (c .before .before .before .before .before .before .before .before .before .before .before .if1 .left) (t .framed) (λ e. c .before .before .if5 .taken (sym (section-is t (c .before .before .before .before .kind-of .ensures)) ∙ e))))
+    said-as (c .no-line3 .ensures) (line-none _ _ _ (next-other _ _ _ (t .f) (c .before .before .before .before .before .before .before .before .before .before .before .if1 .left) (t .framed) (λ e. c .before .before .if5 .taken (sym (section-is t (c .before .before .before .before .row-of .ensures)) ∙ e))))
 
 returns-6 : tie.Need-returns-6
 returns-6 c =
     let w = c .before .before .before .before .before .before .before .scan-into .ensures in
     let t = cut-taken _ _ (said-cut w) (not-false _ (c .before .before .before .before .before .before .if2 .left)) in
-    said-as w (line-there _ _ _ (next-here _ _ _ (t .f) (c .before .before .before .before .before .before .before .before .before .if1 .left) (t .framed) (section-is t (c .before .before .kind-of .ensures) ∙ c .if5 .left) ∙ sym (t .framed)))
+    said-as w (line-there _ _ _ (next-here _ _ _ (t .f) (c .before .before .before .before .before .before .before .before .before .if1 .left) (t .framed) (section-is t (c .before .before .row-of .ensures) ∙ c .if5 .left) ∙ sym (t .framed)))
 
 pub line-into-spec : {M : Type 1} → statement M
 line-into-spec =
@@ -77,7 +77,7 @@ line-into-spec =
     returns-3
     no-line-requires-2
     returns-4
-    kind-of-requires
+    row-of-requires
     no-line-requires-3
     returns-5
     returns-6)

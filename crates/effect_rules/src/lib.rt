@@ -12,6 +12,7 @@ ghost use Rattle.effect_rules.specs.Sites.{labelBit, Known, Judges, Judg
 ghost use Rattle.effect_rules.specs.Search.{EffectRule, breaksOf, placesOf, firstEffect, brokenAt, Unbroken, lowestAt, lowestIn};
 use found::Answer;
 use found::Found;
+use tables::Tables;
 
 // An effect and the method that has it, with the field and the method of the number that it names: its op says which of the two counts.
 struct Site {
@@ -204,7 +205,7 @@ fn lowest_here(homes: &[u8; 127], doms: &[u32; 32], s: Site) -> u8
 }
 
 // The lowest rule that is broken at some effect and the first that breaks it, in one pass: 31 and 0 where none is.
-fn lowest(t: tables::Tables, homes: &[u8; 127], doms: &[u32; 32]) -> Low
+fn lowest(t: Tables, homes: &[u8; 127], doms: &[u32; 32]) -> Low
     requires { ⌜ Held t ⌝ }
     requires { ⌜ Rows (view t) (now homes) (now doms) ⌝ }
     ensures { λ r. ⌜ r ≡ lowestIn (view t) (length (view t .effects)) ⌝ }
@@ -236,13 +237,7 @@ fn lowest(t: tables::Tables, homes: &[u8; 127], doms: &[u32; 32]) -> Low
 }
 
 // One search for every rule over effects, begun at an effect before which none breaks it.
-fn first_effect(
-    rule: u8,
-    from: usize,
-    t: tables::Tables,
-    homes: &[u8; 127],
-    doms: &[u32; 32],
-) -> Found
+fn first_effect(rule: u8, from: usize, t: Tables, homes: &[u8; 127], doms: &[u32; 32]) -> Found
     requires { ⌜ EffectRule rule ⌝ }
     requires { ⌜ Held t ⌝ }
     requires { ⌜ Rows (view t) (now homes) (now doms) ⌝ }
@@ -279,7 +274,7 @@ fn first_effect(
 }
 
 // The first broken rule over effects, at its first place.
-pub fn effect_rules(t: tables::Tables, homes: &[u8; 127], doms: &[u32; 32]) -> Answer
+pub fn effect_rules(t: Tables, homes: &[u8; 127], doms: &[u32; 32]) -> Answer
     requires { ⌜ Held t ⌝ }
     requires { ⌜ Rows (view t) (now homes) (now doms) ⌝ }
     ensures { λ r. ⌜ r ≡ answerOf (firstFound (effectFindings (view t))) ⌝ }

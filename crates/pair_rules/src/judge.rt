@@ -1,4 +1,5 @@
 // The first broken rule of the tables, at its first place.
+use crate::search::first_pair;
 use crate::visits::Visits;
 use found::Answer;
 use found::Found;
@@ -65,7 +66,7 @@ fn find(
         if !broken {
             return Found::Nothing;
         }
-        return crate::search::first_pair(
+        return first_pair(
             rule,
             n,
             chains,
@@ -82,7 +83,7 @@ fn find(
     }
     let keys = crate::visits::plain();
     let all = crate::visits::visits_of(&keys, n);
-    crate::search::first_pair(rule, n, all, t.methods, homes, doms, supers, apart, above)
+    first_pair(rule, n, all, t.methods, homes, doms, supers, apart, above)
 }
 
 fn unbroken() -> Answer

@@ -26,8 +26,7 @@ use Rattle.steps.specs.declared.Steps.{Steps}
 use Rattle.steps.specs.View.{zeroStep}
 use Rattle.steps.specs.Pack.{packStep, packSteps}
 use Rattle.run_frames.specs.Pools.{Has}
-use Rattle.script.specs.declared.label_lines.LabelLines.{LabelLines}
-use Rattle.script.specs.Lists.{LinkLines, linksIn, packLinks, HoldsLinks, oneLink, noLabels, packLabels, HoldsLabels, oneLabel, noSteps, HoldsSteps, oneStep}
+use Rattle.script.specs.Lists.{LinkLines, linksIn, packLinks, HoldsLinks, oneLink, LabelLines, labelsIn, packLabels, HoldsLabels, oneLabel, noSteps, HoldsSteps, oneStep}
 use Rattle.script.specs.Answers.{startedWith}
 
 -- ---- empty
@@ -36,9 +35,9 @@ pub links-none : {row : List ℕ} → row ≡ replicate 256 0 → HoldsLinks [] 
 unfolding packLinks addAll pad
 links-none e = ap (λ (row : List ℕ). linksIn row (record { n = 0; lines = 0 })) e
 
-pub labels-none : noLabels ≡ packLabels []
+pub labels-none : {row : List ℕ} → row ≡ replicate 544 0 → HoldsLabels [] (labelsIn row (record { n = 0; lines = 0 }))
 unfolding packLabels addAll pad
-labels-none = refl
+labels-none e = ap (λ (row : List ℕ). labelsIn row (record { n = 0; lines = 0 })) e
 
 pub steps-none : noSteps ≡ packSteps []
 unfolding packSteps pad
@@ -160,6 +159,6 @@ module _ (xs : List Placed) where
 
 -- ---- the start
 
-pub start-packed : (R : Reader) → startedWith (R .entry) (packPool (R .objects)) (packLinks (R .links) .at) (packLinks (R .links) .n) (packLabels (R .labels)) ≡ pack (startOf R)
+pub start-packed : (R : Reader) → startedWith (R .entry) (packPool (R .objects)) (packLinks (R .links) .at) (packLinks (R .links) .n) (packLabels (R .labels) .at) (packLabels (R .labels) .n) ≡ pack (startOf R)
 unfolding packLinks packLabels pack startOf packFrames packContexts pad
 start-packed R = refl

@@ -26,9 +26,8 @@ use Rattle.run_frames.specs.Declares.{Small}
 use Rattle.run_frames.specs.Pools.{Has}
 use Rattle.lines.specs.declared.Cursor.{Cursor}
 use Rattle.script.specs.declared.entry.Entry.{Entry}
-use Rattle.script.specs.declared.label_lines.LabelLines.{LabelLines}
 use Rattle.script.specs.Sections.{opened, refusal, ending, EntryRead, Section, Ended}
-use Rattle.script.specs.Lists.{withObjects, HasClasses, LinkLines, withLinks, HasFields, BothRead, HoldsLabels, withLabels, HasObjects, HoldsSteps, withSteps, HasDeclared}
+use Rattle.script.specs.Lists.{withObjects, HasClasses, LinkLines, withLinks, HasFields, BothRead, LabelLines, HoldsLabels, withLabels, HasObjects, HoldsSteps, withSteps, HasDeclared}
 use Rattle.script.specs.Answers.{startedWith, scriptOf}
 use Rattle.script.proofs.Order.{advance}
 use Rattle.script.proofs.Stores.{start-packed}
@@ -116,9 +115,9 @@ module _ {t : Tables} (held : Held t) {rows : List ℕ} (supers : Supers (view t
     pub whole-refused : (end .no ≡ 0 → ⊥) → readScript (view t) s ≡ refusal end
     whole-refused z = whole ∙ rw (ne-eqb (end .no) 0 z)
 
-    pub whole-read : end .no ≡ 0 → record { no = 0; line = 0; start = startedWith (e .method) pool (x₂ .at) (x₂ .n) x₃; steps = x₄ } ≡ scriptOf (readScript (view t) s)
+    pub whole-read : end .no ≡ 0 → record { no = 0; line = 0; start = startedWith (e .method) pool (x₂ .at) (x₂ .n) (x₃ .at) (x₃ .n); steps = x₄ } ≡ scriptOf (readScript (view t) s)
     unfolding lists
     whole-read z =
-        (λ i. record { no = 0; line = 0; start = startedWith (e .method) (o .going .holds .packed i) (b .owned .going .holds i .at) (b .owned .going .holds i .n) (l .going .holds i); steps = k .going .holds i })
+        (λ i. record { no = 0; line = 0; start = startedWith (e .method) (o .going .holds .packed i) (b .owned .going .holds i .at) (b .owned .going .holds i .n) (l .going .holds i .at) (l .going .holds i .n); steps = k .going .holds i })
         ∙ (λ i. record { no = 0; line = 0; start = start-packed lists i; steps = packSteps (k .going .list) })
         ∙ rw (whole, eq-eqb (end .no) 0 z)

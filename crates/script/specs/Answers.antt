@@ -5,25 +5,25 @@ use Prim.Native.Nat.{ℕ}
 use mathlib.Core.List.{List, []}
 use lib.ListN.{replicate}
 use Rattle.runs.specs.Script as M
+use Rattle.state.specs.declared.Label.{Label}
 use Rattle.state.specs.declared.Link.{Link}
 use Rattle.state.specs.declared.State.{State}
 use Rattle.state.specs.View.{noSaved, pack, nothingOf}
 use Rattle.steps.specs.Pack.{packSteps}
 use Rattle.script.specs.declared.Script.{Script}
-use Rattle.script.specs.declared.label_lines.LabelLines.{LabelLines}
 
 abbrev pub refusedWith : ℕ → ℕ → Script
 refusedWith x line = record { no = x; line = line; start = pack (nothingOf 0); steps = packSteps [] }
 
 -- the entry method, over the objects, links and labels of the start lines
-abbrev pub startedWith : ℕ → List ℕ → List Link → ℕ → LabelLines → State
-startedWith m pool ks n ls =
+abbrev pub startedWith : ℕ → List ℕ → List Link → ℕ → List Label → ℕ → State
+startedWith m pool ks nlinks ls n =
     record {
       pool = pool;
       links = ks;
-      nlinks = n;
-      labels = ls .at;
-      n = ls .n;
+      nlinks = nlinks;
+      labels = ls;
+      n = n;
       saved = replicate 16 noSaved;
       depth = 0;
       method = m;

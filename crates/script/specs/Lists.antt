@@ -29,15 +29,15 @@ use Rattle.steps.specs.declared.Steps.{Steps}
 use Rattle.steps.specs.View.{zeroStep}
 use Rattle.steps.specs.Pack.{packSteps}
 use Rattle.lines.specs.declared.Cursor.{Cursor}
-use Rattle.live.specs.Live.{linkOf}
+use Rattle.live.specs.Live.{labelOf, linkOf}
 use Rattle.moves.specs.Below.{Supers}
 use Rattle.run_frames.specs.declared.step.Named.{Named}
 use Rattle.run_frames.specs.Pools.{Has}
 use Rattle.run_frames.specs.Judging.{judgeStaticLink, judgeObjectLink}
 use Rattle.run_frames.specs.Elements.{staticLinkIn, staticLinkOf, objectLinkIn, objectLinkOf}
+use Rattle.script.specs.declared.label_lines.LabelCounts.{LabelCounts}
 use Rattle.script.specs.declared.link_lines.LinkCounts.{LinkCounts}
 use Rattle.script.specs.Sections.{Section}
-use Rattle.script.specs.declared.label_lines.LabelLines.{LabelLines}
 
 -- ---- objects
 
@@ -110,11 +110,16 @@ pub record BothRead (nc : ℕ) (fs : Fields) (pool rows s : List ℕ) (from next
 
 -- ---- labels, likewise
 
+pub record LabelLines : Type 0 where
+  pub at : List Label
+  pub n : ℕ
+  pub lines : ℕ
+
+abbrev pub labelsIn : List ℕ → LabelCounts → LabelLines
+labelsIn row x = record { at = map labelOf row; n = x .n; lines = x .lines }
+
 abbrev pub withLabels : Reader → List M.Label → Reader
 withLabels R xs = record { section = R .section; entry = R .entry; objects = R .objects; links = R .links; labels = xs; steps = R .steps }
-
-abbrev pub noLabels : LabelLines
-noLabels = record { at = replicate 544 noLabel; n = 0; lines = 0 }
 
 unfoldable pub packLabels : List M.Label → LabelLines
 packLabels xs = record { at = pad 544 noLabel (map packLabel (addAll sameLabel xs [])); n = length (addAll sameLabel xs []); lines = length xs }

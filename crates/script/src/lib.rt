@@ -2,7 +2,6 @@
 // Kinds never fall up to 14, and all steps are one section, so each section of the text is read by a loop of its own, which holds its own
 // array alone. A line that is not of its section ends it, and is left to the sections behind it; behind a refusal they read nothing and
 // hand it on.
-use crate::label_lines::LabelLines;
 use state::State;
 use steps::Steps;
 use tables::Tables;
@@ -12,7 +11,7 @@ ghost use lib.ListN.{length};
 ghost use Rattle.runs.specs.Script.{readScript};
 ghost use Rattle.tables.specs.View.{view};
 ghost use Rattle.tables.specs.Held.{Held};
-ghost use Rattle.live.specs.Live.{linkOf};
+ghost use Rattle.live.specs.Live.{labelOf, linkOf};
 ghost use Rattle.moves.specs.Below.{Supers};
 ghost use Rattle.script.specs.Answers.{scriptOf, refusedWith, startedWith};
 
@@ -45,18 +44,26 @@ fn refused(no: u8, line: usize) -> Script
 }
 
 // The entry method, over the objects, links and labels of the start lines.
-fn started(method: u8, pool: [u8; 256], links: &[u32; 256], n: usize, labels: LabelLines) -> State
+fn started(
+    method: u8,
+    pool: [u8; 256],
+    links: &[u32; 256],
+    nlinks: usize,
+    labels: &[u16; 544],
+    n: usize,
+) -> State
     requires { ⌜ length (now links) ≡ 256 ⌝ }
-    ensures { λ r. ⌜ r ≡ startedWith method pool (map linkOf (now (links .entry))) n labels ⌝ }
+    requires { ⌜ length (now labels) ≡ 544 ⌝ }
+    ensures { λ r. ⌜ r ≡ startedWith method pool (map linkOf (now (links .entry))) nlinks (map labelOf (now (labels .entry))) n ⌝ }
 {
     let mut r = state::empty(method);
     r.pool = pool;
     let ks = live::structs::links_from(links);
     r.links = ks;
-    r.nlinks = n;
-    let ls = labels.at;
+    r.nlinks = nlinks;
+    let ls = live::structs::labels_from(labels);
     r.labels = ls;
-    r.n = labels.n;
+    r.n = n;
     r
 }
 
@@ -77,15 +84,16 @@ pub fn read(s: &[u8], t: Tables, rows: &[u64; 254]) -> Script
     let pool = o.pool;
     let mut links = [0u32; 256];
     let b = link_lines::read_links(&digits, s, o.next, &mut links, nc, fields, &pool, rows);
-    let l = label_lines::read_labels(&digits, s, b.next, nc, &pool, rows);
+    let mut labels = [0u16; 544];
+    let l = label_lines::read_labels(&digits, s, b.next, &mut labels, nc, &pool, rows);
     let k = step_lines::read_steps(&digits, s, l.next, nc, fields, methods);
     let end = lines::last_line(&digits, s, k.next, 0x2F, 50);
     if end.no != 0 {
         return refused(end.no, end.line + 1);
     }
-    let counts = b.counts;
-    let labels = l.labels;
-    let start = started(e.method, pool, &links, counts.n, labels);
+    let linked = b.counts;
+    let labelled = l.counts;
+    let start = started(e.method, pool, &links, linked.n, &labels, labelled.n);
     let steps = k.steps;
     Script {
         no: 0,

@@ -33,16 +33,16 @@ read-links-requires c κs =
     (o .within, (c .before .before .before .before .before .before .before .before .digits .ensures, (refl, (few-classes (c .before .before .before .before .before .before .before .before .before .before .before .before .before .pre .0), (fields-small (c .before .before .before .before .before .before .before .before .before .before .before .before .before .pre .0), objects-long (o .holds))))))
 
 read-labels-requires : tie.Need-read-labels-requires
-read-labels-requires c κs = (c .before .before .read-links .ensures .0 .owned .going .within, (c .before .before .before .before .before .before .before .before .before .before .before .digits .ensures, objects-long (c .before .before .before .before .before .before .before .read-objects .ensures .going .holds)))
+read-labels-requires c κs = (c .before .before .before .read-links .ensures .0 .owned .going .within, (c .before .before .before .before .before .before .before .before .before .before .before .before .digits .ensures, (refl, objects-long (c .before .before .before .before .before .before .before .before .read-objects .ensures .going .holds))))
 
 read-steps-requires : tie.Need-read-steps-requires
-read-steps-requires c κs = (c .before .read-labels .ensures .going .within, (c .before .before .before .before .before .before .before .before .before .before .before .before .before .digits .ensures, c .before .before .before .before .before .before .before .before .before .before .before .before .before .before .before .before .if1 .left))
+read-steps-requires c κs = (c .before .read-labels .ensures .0 .going .within, (c .before .before .before .before .before .before .before .before .before .before .before .before .before .before .digits .ensures, c .before .before .before .before .before .before .before .before .before .before .before .before .before .before .before .before .before .if1 .left))
 
 last-line-requires : tie.Need-last-line-requires
-last-line-requires c κs = (c .before .before .before .before .before .before .before .before .before .before .before .before .before .before .before .digits .ensures, (c .before .read-steps .ensures .going .within, lit≤ tt))
+last-line-requires c κs = (c .before .before .before .before .before .before .before .before .before .before .before .before .before .before .before .before .digits .ensures, (c .before .read-steps .ensures .going .within, lit≤ tt))
 
 add-refused : tie.Need-add-refused
-add-refused c = let w : Within (c .before .before .before .before .before .before .before .before .before .before .before .before .before .before .before .before .before .before .before .before .before .before .before .before .args .s .now) (c .before .before .before .last-line .result) = ended (c .before .before .before .before .before .read-steps .ensures .going .within) (c .before .before .before .before .before .read-steps .ensures .past) (c .before .before .before .last-line .ensures) .within in omega (arith, w .at, w .line, c .before .before .before .before .before .before .before .before .before .before .before .before .before .before .before .before .before .before .before .before .before .before .if1 .left)
+add-refused c = let w : Within (c .before .before .before .before .before .before .before .before .before .before .before .before .before .before .before .before .before .before .before .before .before .before .before .before .before .args .s .now) (c .before .before .before .last-line .result) = ended (c .before .before .before .before .before .read-steps .ensures .going .within) (c .before .before .before .before .before .read-steps .ensures .past) (c .before .before .before .last-line .ensures) .within in omega (arith, w .at, w .line, c .before .before .before .before .before .before .before .before .before .before .before .before .before .before .before .before .before .before .before .before .before .before .before .if1 .left)
 
 refused-requires-2 : tie.Need-refused-requires-2
 refused-requires-2 c κs = search needs
@@ -50,15 +50,15 @@ refused-requires-2 c κs = search needs
 returns-2 : tie.Need-returns-2
 returns-2 c =
     c .refused2 .ensures
-    ∙ rw (whole-refused (c .before .before .before .before .before .before .before .before .before .before .before .before .before .before .before .before .before .before .before .before .before .before .before .before .before .pre .0) (c .before .before .before .before .before .before .before .before .before .before .before .before .before .before .before .before .before .before .before .before .before .before .before .before .before .pre .1) (c .before .before .before .before .before .before .before .before .before .before .before .before .before .before .before .before .before .before .before .before .before .before .before .if1 .left) (c .before .before .before .before .before .before .before .before .before .before .before .before .before .before .before .before .before .before .read-entry .ensures) (c .before .before .before .before .before .before .before .before .before .before .before .before .before .before .before .before .read-objects .ensures) (c .before .before .before .before .before .before .before .before .before .before .before .read-links .ensures .0) (c .before .before .before .before .before .before .before .before .read-labels .ensures) (c .before .before .before .before .before .before .read-steps .ensures) (ended (c .before .before .before .before .before .before .read-steps .ensures .going .within) (c .before .before .before .before .before .before .read-steps .ensures .past) (c .before .before .before .before .last-line .ensures)) (c .before .before .if2 .taken), add-one)
+    ∙ rw (whole-refused (c .before .before .before .before .before .before .before .before .before .before .before .before .before .before .before .before .before .before .before .before .before .before .before .before .before .before .pre .0) (c .before .before .before .before .before .before .before .before .before .before .before .before .before .before .before .before .before .before .before .before .before .before .before .before .before .before .pre .1) (c .before .before .before .before .before .before .before .before .before .before .before .before .before .before .before .before .before .before .before .before .before .before .before .before .if1 .left) (c .before .before .before .before .before .before .before .before .before .before .before .before .before .before .before .before .before .before .before .read-entry .ensures) (c .before .before .before .before .before .before .before .before .before .before .before .before .before .before .before .before .before .read-objects .ensures) (c .before .before .before .before .before .before .before .before .before .before .before .before .read-links .ensures .0) (c .before .before .before .before .before .before .before .before .read-labels .ensures .0) (c .before .before .before .before .before .before .read-steps .ensures) (ended (c .before .before .before .before .before .before .read-steps .ensures .going .within) (c .before .before .before .before .before .before .read-steps .ensures .past) (c .before .before .before .before .last-line .ensures)) (c .before .before .if2 .taken), add-one)
 
 started-requires : tie.Need-started-requires
-started-requires c κs = c .before .before .before .before .before .before .before .before .before .before .before .before .read-links .ensures .1
+started-requires c κs = (c .before .before .before .before .before .before .before .before .before .before .before .before .before .before .read-links .ensures .1, c .before .before .before .before .before .before .before .before .before .before .read-labels .ensures .1)
 
 returns-3 : tie.Need-returns-3
 returns-3 c =
     rw (c .before .started .ensures)
-    (whole-read (c .before .before .before .before .before .before .before .before .before .before .before .before .before .before .before .before .before .before .before .before .before .before .before .before .before .before .before .before .pre .0) (c .before .before .before .before .before .before .before .before .before .before .before .before .before .before .before .before .before .before .before .before .before .before .before .before .before .before .before .before .pre .1) (c .before .before .before .before .before .before .before .before .before .before .before .before .before .before .before .before .before .before .before .before .before .before .before .before .before .before .if1 .left) (c .before .before .before .before .before .before .before .before .before .before .before .before .before .before .before .before .before .before .before .before .before .read-entry .ensures) (c .before .before .before .before .before .before .before .before .before .before .before .before .before .before .before .before .before .before .before .read-objects .ensures) (c .before .before .before .before .before .before .before .before .before .before .before .before .before .before .read-links .ensures .0) (c .before .before .before .before .before .before .before .before .before .before .before .read-labels .ensures) (c .before .before .before .before .before .before .before .before .before .read-steps .ensures) (ended (c .before .before .before .before .before .before .before .before .before .read-steps .ensures .going .within) (c .before .before .before .before .before .before .before .before .before .read-steps .ensures .past) (c .before .before .before .before .before .before .before .last-line .ensures)) (c .before .before .before .before .before .if2 .left))
+    (whole-read (c .before .before .before .before .before .before .before .before .before .before .before .before .before .before .before .before .before .before .before .before .before .before .before .before .before .before .before .before .before .before .pre .0) (c .before .before .before .before .before .before .before .before .before .before .before .before .before .before .before .before .before .before .before .before .before .before .before .before .before .before .before .before .before .before .pre .1) (c .before .before .before .before .before .before .before .before .before .before .before .before .before .before .before .before .before .before .before .before .before .before .before .before .before .before .before .before .if1 .left) (c .before .before .before .before .before .before .before .before .before .before .before .before .before .before .before .before .before .before .before .before .before .before .before .read-entry .ensures) (c .before .before .before .before .before .before .before .before .before .before .before .before .before .before .before .before .before .before .before .before .before .read-objects .ensures) (c .before .before .before .before .before .before .before .before .before .before .before .before .before .before .before .before .read-links .ensures .0) (c .before .before .before .before .before .before .before .before .before .before .before .before .read-labels .ensures .0) (c .before .before .before .before .before .before .before .before .before .before .read-steps .ensures) (ended (c .before .before .before .before .before .before .before .before .before .before .read-steps .ensures .going .within) (c .before .before .before .before .before .before .before .before .before .before .read-steps .ensures .past) (c .before .before .before .before .before .before .before .before .last-line .ensures)) (c .before .before .before .before .before .before .if2 .left))
 
 pub read-spec : {M : Type 1} → statement M
 read-spec =

@@ -12,9 +12,14 @@ empty-requires c κs = search needs
 links-from-requires : tie.Need-links-from-requires
 links-from-requires c κs = search needs
 
+labels-from-requires : tie.Need-labels-from-requires
+labels-from-requires c κs = search needs
+
 returns : tie.Need-returns
 unfolding pack packContexts pad
-returns c = rw (c .before .before .empty .ensures, c .before .links-from .ensures (c .before .before .before .pre))
+returns c =
+    let p = c .before .before .before .pre in
+    rw (c .before .before .empty .ensures, c .before .links-from .ensures (p .0), c .labels-from .ensures (p .1))
 
 pub started-spec : {M : Type 1} → statement M
-started-spec = tie.close (tie.spec empty-requires links-from-requires returns)
+started-spec = tie.close (tie.spec empty-requires links-from-requires labels-from-requires returns)

@@ -1,34 +1,58 @@
--- `one_label` counts the line, and stores the label where it is not there yet.
+-- `one_label` counts the line, and stores the label's number where the label is not there yet.
 -- Assumes nothing.
+use Prim.Native.Nat.{_+_, _*_, _≤_}
 use native.Mathlib.Omega.{arith}
-use mathlib.Core.Path.{sym, _∙_}
+use mathlib.Core.Path.{_≡_, sym, ap, _∙_}
+use lib.ListN.{length, length-set}
+use Rattle.live.specs.Live.{labelOf}
+use Rattle.live.proofs.Rows.{label-of, map-set}
 use Rattle.script.specs.Lists.{oneLabel}
+use borrow.Author.Needs.{needs}
 use Rattle.script.proofs.label_lines.one_label.Statement.{statement}
 use Rattle.script.proofs.label_lines.one_label.Tie as tie
 
-add-y : tie.Need-add-y
-add-y c = omega (arith, c .before .before .pre .1)
+add-lines : tie.Need-add-lines
+add-lines c = search needs
 
 has-label-requires : tie.Need-has-label-requires
-has-label-requires c κs = omega (arith, c .before .before .pre .0, c .before .before .pre .1)
+has-label-requires c κs = search needs
+
+-- the row is long enough for its labels
+long : (c : tie.After-has-label) → 32 * 0 + c .before .before .before .args .x .n ≤ length (c .before .before .before .args .labels .now)
+long c = omega (arith, c .before .before .before .pre .0, c .before .before .before .pre .1 .0, c .before .before .before .pre .1 .1)
 
 returns : tie.Need-returns
 unfolding oneLabel
-returns c = rw (sym (c .before .has-label .ensures) ∙ c .if1 .taken)
+returns c = (rw (sym (c .before .has-label .ensures (long (c .before))) ∙ c .if1 .taken), c .before .before .before .before .pre .0)
 
-mul-l : tie.Need-mul-l
-mul-l c = omega (arith, c .before .before .before .before .pre .0, c .before .before .before .before .pre .1)
+label-number-requires : tie.Need-label-number-requires
+label-number-requires c κs = search needs
 
-element-set-from-l : tie.Need-element-set-from-l
-element-set-from-l c = omega (arith, c .before .before .before .before .pre .0, c .before .before .before .before .pre .1)
+mul-labels : tie.Need-mul-labels
+mul-labels c = search needs
 
-add-y-2 : tie.Need-add-y-2
-add-y-2 c = omega (arith, c .before .before .before .before .pre .0, c .before .before .before .before .pre .1)
+element-write-labels : tie.Need-element-write-labels
+element-write-labels c = search needs
+
+add-t9 : tie.Need-add-t9
+add-t9 c = search needs
 
 returns-2 : tie.Need-returns-2
 unfolding oneLabel
-returns-2 c = rw (sym (c .before .has-label .ensures) ∙ c .if1 .left)
+returns-2 c =
+    let a = c .before .before .before .before .before .args in
+    let e : labelOf (c .label-number .result) ≡ a .l = ap labelOf (c .label-number .ensures) ∙ label-of (a .l .r) (a .l .c) (search needs) in
+    (rw (sym (c .before .before .has-label .ensures (long (c .before .before))) ∙ c .before .if1 .left, map-set labelOf (a .labels .now) (a .x .n) (c .label-number .result), e), length-set (a .labels .now) (a .x .n) (c .label-number .result) ∙ c .before .before .before .before .before .pre .0)
 
 pub one-label-spec : {M : Type 1} → statement M
 one-label-spec =
-    tie.close (tie.spec add-y has-label-requires returns mul-l element-set-from-l add-y-2 returns-2)
+    tie.close
+    (tie.spec
+    add-lines
+    has-label-requires
+    returns
+    label-number-requires
+    mul-labels
+    element-write-labels
+    add-t9
+    returns-2)

@@ -1,10 +1,8 @@
 // The run state by value: flat arrays of links, labels and saved contexts with their counts, and the pool. What it means is specs/View.antt.
 ghost use mathlib.Core.Path.{_≡_};
-ghost use Prim.Native.Nat.{_+_, _*_, _≤_};
 ghost use lib.ListN.{length};
-ghost use Rattle.runs.specs.Machine.{label, sameLabel, sameLink};
-ghost use Rattle.runs.specs.Steps.{holds, hasLink, inPool};
-ghost use Rattle.state.specs.View.{labelView, linkView, frameView, linksView, poolFrom, pack, nothingOf};
+ghost use Rattle.runs.specs.Steps.{inPool};
+ghost use Rattle.state.specs.View.{poolFrom, pack, nothingOf};
 
 // r labelled c, in a frame
 pub struct Label {
@@ -69,63 +67,6 @@ pub fn empty(method: u8) -> State
         depth: 0,
         method: method,
     }
-}
-
-fn is_label(l: Label, r: u8, c: u8) -> bool
-    ensures { λ x. ⌜ x ≡ sameLabel (label r c) (labelView l) ⌝ }
-{
-    if r != l.r {
-        return false;
-    }
-    c == l.c
-}
-
-// Whether the frame at this depth, of n labels, has r at the label c.
-pub fn has_label(labels: [Label; 544], depth: usize, n: usize, r: u8, c: u8) -> bool
-    requires { ⌜ 32 * depth + n ≤ 544 ⌝ }
-    ensures { λ x. ⌜ x ≡ holds (frameView labels depth n) r c ⌝ }
-{
-    let base = 32 * depth;
-    let mut i = 0;
-    while i < n {
-        let l = labels[base + i];
-        if is_label(l, r, c) {
-            return true;
-        }
-        i += 1;
-    }
-    false
-}
-
-fn is_link(k: Link, l: Link) -> bool
-    ensures { λ x. ⌜ x ≡ sameLink (linkView k) (linkView l) ⌝ }
-{
-    if k.owner != l.owner {
-        return false;
-    }
-    if k.declared != l.declared {
-        return false;
-    }
-    if k.typ != l.typ {
-        return false;
-    }
-    k.target == l.target
-}
-
-// Whether the first n links have k.
-pub fn has_link(links: [Link; 256], n: usize, k: Link) -> bool
-    requires { ⌜ n ≤ 256 ⌝ }
-    ensures { λ x. ⌜ x ≡ hasLink (linksView links n) (linkView k) ⌝ }
-{
-    let mut i = 0;
-    while i < n {
-        let l = links[i];
-        if is_link(k, l) {
-            return true;
-        }
-        i += 1;
-    }
-    false
 }
 
 // Whether r is the number of an object.

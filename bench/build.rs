@@ -5,4 +5,6 @@ fn main() {
     println!("cargo:rustc-link-search=native={folder}");
     println!("cargo:rustc-link-lib=static=dcc");
     println!("cargo:rerun-if-changed={folder}/libdcc.a");
+    println!("cargo:rerun-if-env-changed=BENCH_SHIFT");
+    println!("cargo:rustc-env=BENCH_SHIFT={}", std::env::var("BENCH_SHIFT").unwrap_or("0".to_string()));
 }

@@ -12,7 +12,7 @@ use cases::{names, Case};
 use std::hint::black_box;
 use std::process::ExitCode;
 
-// Where the linker puts a loop moves its time by up to a tenth: so many bytes in front of the code put it elsewhere.
+// Where the linker puts a loop moves its time: so many bytes in front of the code put it elsewhere.
 std::arch::global_asm!(".pushsection .text.shift, \"axR\", @progbits", concat!(".skip ", env!("BENCH_SHIFT")), ".popsection");
 
 fn one(words: &[String]) -> Option<()> {

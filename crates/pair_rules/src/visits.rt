@@ -50,7 +50,7 @@ fn nearest(keys: &[u16; 256], n: usize) -> [u16; 256]
     near
 }
 
-// The next place of the key of a, or n. Few places share a low byte, so the walk is short; a search through all places in between costs a mispredicted exit for each a.
+// The next place of the key of a, or n. Few places share a low byte, so the walk is short, where a search through all places in between is long.
 fn next_of(keys: &[u16; 256], near: &[u16; 256], n: usize, a: usize) -> usize
     requires { ⌜ (a < n) × (n ≤ 256) × Nearest (now keys) n (now near) ⌝ }
     ensures { λ r. ⌜ FirstFrom (now (keys .entry)) n (a + 1) (getD (now (keys .entry)) a 0) r ⌝ }

@@ -47,7 +47,7 @@ fn of_methods(rule: u8) -> bool
 fn find(
     rule: u8,
     t: Tables,
-    chains: Visits,
+    slots: Visits,
     broken: bool,
     homes: &[u8; 127],
     doms: &[u32; 32],
@@ -57,7 +57,7 @@ fn find(
 ) -> Found
     requires { ⌜ Held t ⌝ }
     requires { ⌜ Known (view t) (now homes) (now doms) (now supers) (now apart) (now above) ⌝ }
-    requires { ⌜ BySlot (t .methods .at) (t .methods .n) (chains .starts) (chains .nexts) ⌝ }
+    requires { ⌜ BySlot (t .methods .at) (t .methods .n) (slots .starts) (slots .nexts) ⌝ }
     requires { ⌜ Broken (view t) broken ⌝ }
     ensures { λ r. ⌜ r ≡ foundOf (foundBy rule (view t)) ⌝ }
 {
@@ -66,17 +66,7 @@ fn find(
         if !broken {
             return Found::Nothing;
         }
-        return first_pair(
-            rule,
-            n,
-            chains,
-            t.methods,
-            homes,
-            doms,
-            supers,
-            apart,
-            above,
-        );
+        return first_pair(rule, n, slots, t.methods, homes, doms, supers, apart, above);
     }
     if pair_tests::clears(rule, t.classes, homes, doms, apart) {
         return Found::Nothing;

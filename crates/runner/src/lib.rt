@@ -16,6 +16,7 @@ ghost use Rattle.moves.specs.Below.{Supers};
 ghost use Rattle.holdings.specs.Lines.{Put};
 ghost use Rattle.walk.specs.Walk.{Begun, outcomeOf};
 ghost use Rattle.runner.specs.Answers.{ranAs, Leaves};
+use live::structs;
 use state::State;
 use steps::Steps;
 use tables::Tables;
@@ -41,7 +42,7 @@ fn only(number: u8, first: u16, second: u16) -> RunAnswer
     }
 }
 
-// The steps over the tables' own arrays.
+// The steps over the tables' own arrays, on rows of numbers that are made of the start and give the state back behind the last step.
 fn take_steps(t: Tables, rows: &[u64; 254], start: State, steps: Steps) -> Outcome
     requires { ⌜ Held t ⌝ }
     requires { ⌜ Supers (view t) (now rows) ⌝ }
@@ -50,7 +51,29 @@ fn take_steps(t: Tables, rows: &[u64; 254], start: State, steps: Steps) -> Outco
 {
     let pairs = permits::pairs(t.fields);
     let effects = permits::chains(t.effects);
-    walk::walk(start, steps, t.methods, rows, &effects, &pairs)
+    let mut labels = structs::labels_of(start);
+    let mut links = structs::links_of(start);
+    let mut pool = start.pool;
+    let mut saved = structs::saved_of(start);
+    let at = structs::counts_of(start);
+    let w = walk::walk(
+        &mut labels,
+        &mut links,
+        &mut pool,
+        &mut saved,
+        at,
+        steps,
+        t.methods,
+        rows,
+        &effects,
+        &pairs,
+    );
+    Outcome {
+        number: w.number,
+        line: w.line,
+        taken: w.taken,
+        state: structs::state_from(&labels, &links, pool, &saved, w.now),
+    }
 }
 
 // The holdings of a state, by the tables' own domains.
@@ -60,10 +83,8 @@ fn show(t: Tables, s: State, out: &mut [u8]) -> usize
     requires { ⌜ 7200 ≤ length (now out) ⌝ }
     ensures { λ r. ⌜ Put (holdingsText (view t) (S.view s)) (now (out .entry)) r (now (out .exit)) ⌝ }
 {
-    let classes = t.classes;
-    let methods = t.methods;
-    let owners = homes::owners(methods);
-    let homes = homes::homes(classes);
+    let owners = homes::owners(t.methods);
+    let homes = homes::homes(t.classes);
     holdings::write_holdings(s, &owners, &homes, out)
 }
 
@@ -80,11 +101,8 @@ fn run_script(t: Tables, script: &[u8], out: &mut [u8]) -> RunAnswer
     if read.no != 0 {
         return only(read.no, read.line as u16, 0);
     }
-    let start = read.start;
-    let steps = read.steps;
-    let end = take_steps(t, &rows, start, steps);
-    let last = end.state;
-    let length = show(t, last, out);
+    let end = take_steps(t, &rows, read.start, read.steps);
+    let length = show(t, end.state, out);
     RunAnswer {
         number: end.number,
         first: end.line,

@@ -54,7 +54,7 @@ fn wide(x: u8) -> usize
 }
 
 // The row of a kind of frame.
-pub fn kind_of(b: u8) -> Kind
+fn kind_of(b: u8) -> Kind
     ensures { λ r. ⌜ r ≡ kindIn (rowOf b) ⌝ }
 {
     let i = wide(b);

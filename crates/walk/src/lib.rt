@@ -8,13 +8,12 @@ ghost use Rattle.live.specs.Live.{stateOf};
 ghost use Rattle.walk.specs.Walk.{Walk, outcomeOf, walkedTo};
 use live::Counts;
 use live::Moved;
-use live::structs;
 use state::State;
 use steps::Step;
 use steps::Steps;
 use tables::Methods;
 
-// 0, or the number that refuses a step and its line; the number of steps taken, and the state behind them.
+// What a run ends in: 0, or the number that refuses a step and its line; the number of steps taken, and the state behind them.
 pub struct Outcome {
     pub number: u8,
     pub line: u16,
@@ -22,8 +21,8 @@ pub struct Outcome {
     pub state: State,
 }
 
-// The same with the counts, while the state is rows that are lent.
-struct Walked {
+// The same with the counts, where the state is rows that are lent.
+pub struct Walked {
     pub number: u8,
     pub line: u16,
     pub taken: u16,
@@ -49,8 +48,8 @@ fn ended(m: Moved, line: u16, taken: usize) -> Walked
     }
 }
 
-// The steps on the rows of the start.
-fn take(
+// The steps on the rows of the start, which then are those of the state behind the steps.
+pub fn walk(
     labels: &mut [u16; 544],
     links: &mut [u32; 256],
     pool: &mut [u8; 256],
@@ -88,40 +87,4 @@ fn take(
         now = m.now;
     }
     ended(Moved { code: 0, now }, 0, steps.n)
-}
-
-pub fn walk(
-    start: State,
-    steps: Steps,
-    methods: Methods,
-    rows: &[u64; 254],
-    effects: &[u16; 4096],
-    pairs: &[u16; 256],
-) -> Outcome
-    requires { ⌜ Walk (now rows) (now effects) (now pairs) methods start steps ⌝ }
-    ensures { λ r. ⌜ ((w : Walk (now (rows .entry)) (now (effects .entry)) (now (pairs .entry)) methods start steps) → r ≡ outcomeOf (runFrom (w .loaded) (w .begun .state) 0 (stepsView steps))) ⌝ }
-{
-    let mut labels = structs::labels_of(start);
-    let mut links = structs::links_of(start);
-    let mut pool = start.pool;
-    let mut saved = structs::saved_of(start);
-    let at = structs::counts_of(start);
-    let w = take(
-        &mut labels,
-        &mut links,
-        &mut pool,
-        &mut saved,
-        at,
-        steps,
-        methods,
-        rows,
-        effects,
-        pairs,
-    );
-    Outcome {
-        number: w.number,
-        line: w.line,
-        taken: w.taken,
-        state: structs::state_from(&labels, &links, pool, &saved, w.now),
-    }
 }

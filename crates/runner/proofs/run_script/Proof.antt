@@ -30,21 +30,21 @@ returns c = leaves-refused _ _ _ (script-refused _ (c .before .before .before .b
 
 take-steps-requires : tie.Need-take-steps-requires
 take-steps-requires c κs =
-    let h = c .before .before .before .before .before .before .before .before .before .before .before .before .before .pre .0 in
-    (h, (record { good = h .good; are = c .before .before .before .before .before .before .before .supertypes .ensures }, begun (script-read _ (h .good) _ (c .before .before .before .before .before .read .ensures) (c .before .before .before .if1 .left))))
+    let h = c .before .before .before .before .before .before .before .before .before .before .before .pre .0 in
+    (h, (record { good = h .good; are = c .before .before .before .before .before .supertypes .ensures }, begun (script-read _ (h .good) _ (c .before .before .before .read .ensures) (c .before .if1 .left))))
 
 show-requires : tie.Need-show-requires
 show-requires c κs =
-    let p = c .before .before .before .before .before .before .before .before .before .before .before .before .before .before .before .before .pre in
-    let k = script-read _ (p .0 .good) _ (c .before .before .before .before .before .before .before .before .read .ensures) (c .before .before .before .before .before .before .if1 .left) in
-    let q = end-is k (c .before .before .take-steps .ensures) in
+    let p = c .before .before .before .before .before .before .before .before .before .before .before .before .before .pre in
+    let k = script-read _ (p .0 .good) _ (c .before .before .before .before .before .read .ensures) (c .before .before .before .if1 .left) in
+    let q = end-is k (c .before .take-steps .ensures) in
     (p .0, (end-fine _ (p .0 .good) _ _ (k .is) q, p .1))
 
-cast-t22 : tie.Need-cast-t22
-cast-t22 c =
-    let g = c .before .before .before .before .before .before .before .before .before .before .before .before .before .before .before .before .before .before .before .pre .0 .good in
-    let k = script-read _ g _ (c .before .before .before .before .before .before .before .before .before .before .before .read .ensures) (c .before .before .before .before .before .before .before .before .before .if1 .left) in
-    let q = end-is k (c .before .before .before .before .before .take-steps .ensures) in
+cast-t19 : tie.Need-cast-t19
+cast-t19 c =
+    let g = c .before .before .before .before .before .before .before .before .before .before .before .before .before .before .before .before .pre .0 .good in
+    let k = script-read _ g _ (c .before .before .before .before .before .before .before .before .read .ensures) (c .before .before .before .before .before .before .if1 .left) in
+    let q = end-is k (c .before .before .before .before .take-steps .ensures) in
     omega (arith, end-short _ g _ _ (k .is) q (c .before .before .show .ensures))
 
 same-length : tie.Need-same-length
@@ -52,9 +52,9 @@ same-length c = search needs
 
 returns-2 : tie.Need-returns-2
 returns-2 c =
-    let g = c .before .before .before .before .before .before .before .before .before .before .before .before .before .before .before .before .before .before .before .pre .0 .good in
-    let k = script-read _ g _ (c .before .before .before .before .before .before .before .before .before .before .before .read .ensures) (c .before .before .before .before .before .before .before .before .before .if1 .left) in
-    let q = end-is k (c .before .before .before .before .before .take-steps .ensures) in
+    let g = c .before .before .before .before .before .before .before .before .before .before .before .before .before .before .before .before .pre .0 .good in
+    let k = script-read _ g _ (c .before .before .before .before .before .before .before .before .read .ensures) (c .before .before .before .before .before .before .if1 .left) in
+    let q = end-is k (c .before .before .before .before .take-steps .ensures) in
     end-leaves _ g _ _ (k .is) q (c .before .before .show .ensures)
 
 pub run-script-spec : {M : Type 1} → statement M
@@ -69,6 +69,6 @@ run-script-spec =
     returns
     take-steps-requires
     show-requires
-    cast-t22
+    cast-t19
     same-length
     returns-2)

@@ -6,10 +6,10 @@ use Rattle.runner.proofs.show.Statement.{statement}
 use Rattle.runner.proofs.show.Tie as tie
 
 owners-requires : tie.Need-owners-requires
-owners-requires c κs = few-methods _ (c .before .before .before .pre .0)
+owners-requires c κs = few-methods _ (c .before .pre .0)
 
 homes-requires : tie.Need-homes-requires
-homes-requires c κs = few-classes _ (c .before .before .before .before .pre .0)
+homes-requires c κs = few-classes _ (c .before .before .pre .0)
 
 write-holdings-requires : tie.Need-write-holdings-requires
 write-holdings-requires c κs = search needs
@@ -20,7 +20,7 @@ same-length c = search needs
 returns : tie.Need-returns
 returns c =
     let s = c .before .before .before .before .before in
-    c .before .before .write-holdings .ensures _ (looked _ (s .before .before .before .before .before .before .pre .0) (s .before .before .owners .ensures) (s .before .homes .ensures))
+    c .before .before .write-holdings .ensures _ (looked _ (s .before .before .before .before .pre .0) (s .before .before .owners .ensures) (s .before .homes .ensures))
 
 pub show-spec : {M : Type 1} → statement M
 show-spec = tie.close (tie.spec owners-requires homes-requires write-holdings-requires same-length returns)

@@ -22,7 +22,6 @@ use Rattle.runs.proofs.Sets.{joins-each, joins-last}
 use Rattle.bits.specs.Rows.{listed}
 use Rattle.state.specs.View.{poolFrom, classIn, packPool}
 use Rattle.state.proofs.Pool.{class-in, pool-has, pool-is, plain-listed, pool-class, pack-at, pack-long, pool-more}
-use Rattle.state.specs.Pools.{Plain}
 use Rattle.moves.specs.Below.{Supers}
 use Rattle.moves.proofs.Subtypes.{object-below}
 use Rattle.run_frames.specs.Judging.{among, isAmong}

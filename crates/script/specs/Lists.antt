@@ -35,8 +35,7 @@ use Rattle.run_frames.specs.declared.step.Named.{Named}
 use Rattle.run_frames.specs.Pools.{Has}
 use Rattle.run_frames.specs.Judging.{judgeStaticLink, judgeObjectLink}
 use Rattle.run_frames.specs.Elements.{staticLinkIn, staticLinkOf, objectLinkIn, objectLinkOf}
-use Rattle.script.specs.declared.label_lines.LabelCounts.{LabelCounts}
-use Rattle.script.specs.declared.link_lines.LinkCounts.{LinkCounts}
+use Rattle.script.specs.declared.counted.Counted.{Counted}
 use Rattle.script.specs.Sections.{Section}
 
 -- ---- objects
@@ -55,7 +54,7 @@ pub record LinkLines : Type 0 where
   pub lines : ℕ
 
 -- what a row of numbers means, with the counts
-abbrev pub linksIn : List ℕ → LinkCounts → LinkLines
+abbrev pub linksIn : List ℕ → Counted → LinkLines
 linksIn row x = record { at = map linkOf row; n = x .n; lines = x .lines }
 
 abbrev pub withLinks : Reader → List M.Link → Reader
@@ -115,7 +114,7 @@ pub record LabelLines : Type 0 where
   pub n : ℕ
   pub lines : ℕ
 
-abbrev pub labelsIn : List ℕ → LabelCounts → LabelLines
+abbrev pub labelsIn : List ℕ → Counted → LabelLines
 labelsIn row x = record { at = map labelOf row; n = x .n; lines = x .lines }
 
 abbrev pub withLabels : Reader → List M.Label → Reader

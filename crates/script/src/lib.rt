@@ -15,6 +15,7 @@ ghost use Rattle.live.specs.Live.{labelOf, linkOf};
 ghost use Rattle.moves.specs.Below.{Supers};
 ghost use Rattle.script.specs.Answers.{scriptOf, refusedWith, startedWith};
 
+mod counted;
 mod entry;
 mod label_lines;
 mod link_lines;

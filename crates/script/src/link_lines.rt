@@ -1,5 +1,7 @@
 // The sections of the lines 12 cc tt qq and 13 pp cc tt qq, which are counted together. Their links are collected in a row of numbers that the
 // caller lends, as a run has them.
+use crate::counted::Counted;
+use crate::counted::SetRead;
 use lines::Cursor;
 use tables::Fields;
 ghost use mathlib.Core.Path.{_≡_};
@@ -15,17 +17,6 @@ ghost use Rattle.lines.specs.Cursors.{Within};
 ghost use Rattle.run_frames.specs.Declares.{Small, Declares};
 ghost use Rattle.script.specs.Sections.{Section};
 ghost use Rattle.script.specs.Lists.{staticBy, judgeLink, linkIn, linksIn, oneLink, HoldsLinks, SomeLinks, withLinks, HasFields, BothRead};
-
-// How many links the set has, and how many lines there were: repeated ones too.
-pub struct LinkCounts {
-    pub n: usize,
-    pub lines: usize,
-}
-
-pub struct LinksRead {
-    pub next: Cursor,
-    pub counts: LinkCounts,
-}
 
 // A line of this kind, 12 or else 13: with nc classes, n lines before it, the rows of its fields, static ones or not, the classes of the
 // objects, and the rows of the supertypes.
@@ -60,7 +51,7 @@ fn link_of(kind: u8, b: &[u8; 16]) -> u32
 }
 
 // One line more, and the link besides, unless it is there.
-fn one_link(links: &mut [u32; 256], x: LinkCounts, k: u32) -> LinkCounts
+fn one_link(links: &mut [u32; 256], x: Counted, k: u32) -> Counted
     requires { ⌜ length (now links) ≡ 256 ⌝ }
     requires { ⌜ x .n ≤ x .lines ⌝ }
     requires { ⌜ x .lines < 256 ⌝ }
@@ -70,10 +61,10 @@ fn one_link(links: &mut [u32; 256], x: LinkCounts, k: u32) -> LinkCounts
     let n = x.n;
     let lines = x.lines + 1;
     if live::has_link(links, n, k) {
-        return LinkCounts { n, lines };
+        return Counted { n, lines };
     }
     links[n] = k;
-    LinkCounts { n: n + 1, lines }
+    Counted { n: n + 1, lines }
 }
 
 // The section of the kind 12 or 13, behind the links that are in the row.
@@ -83,12 +74,12 @@ fn read_kind(
     kind: u8,
     from: Cursor,
     links: &mut [u32; 256],
-    before: LinkCounts,
+    before: Counted,
     nc: usize,
     declared: &[u64; 254],
     pool: &[u8; 256],
     rows: &[u64; 254],
-) -> LinksRead
+) -> SetRead
     requires { ⌜ Within (now s) from ⌝ }
     requires { ⌜ now digits ≡ digitTable ⌝ }
     requires { ⌜ ((kind ≡ 0x12) ⊎ (kind ≡ 0x13)) ⌝ }
@@ -107,12 +98,12 @@ fn read_kind(
         let line = lines::line_into(digits, s, next, kind, &mut f);
         let here = line.ok;
         if !here {
-            return LinksRead { next, counts: x };
+            return SetRead { next, counts: x };
         }
         let no = judge_link(kind, nc, x.lines, declared, pool, rows, &f, line.n);
         if no != 0 {
             next.no = no;
-            return LinksRead { next, counts: x };
+            return SetRead { next, counts: x };
         }
         let k = link_of(kind, &f);
         x = one_link(links, x, k);
@@ -130,7 +121,7 @@ pub(crate) fn read_links(
     fields: Fields,
     pool: &[u8; 256],
     rows: &[u64; 254],
-) -> LinksRead
+) -> SetRead
     requires { ⌜ Within (now s) from ⌝ }
     requires { ⌜ now digits ≡ digitTable ⌝ }
     requires { ⌜ now links ≡ replicate 256 0 ⌝ }
@@ -140,7 +131,7 @@ pub(crate) fn read_links(
     ensures { λ r. ⌜ BothRead nc fields (now (pool .entry)) (now (rows .entry)) (now (s .entry)) from (r .next) (linksIn (now (links .exit)) (r .counts)) ⌝ }
     ensures { λ _. ⌜ length (now (links .exit)) ≡ 256 ⌝ }
 {
-    let none = LinkCounts { n: 0, lines: 0 };
+    let none = Counted { n: 0, lines: 0 };
     let mut statics = [0u64; 254];
     run_frames::declared::declare(fields, 1, &mut statics);
     let a = read_kind(digits, s, 0x12, from, links, none, nc, &statics, pool, rows);

@@ -11,6 +11,7 @@ ghost use Rattle.steps.specs.View.{argumentsAt};
 ghost use Rattle.state.specs.View.{frameView, view, pack};
 ghost use Rattle.state.specs.Fine.{Fine};
 ghost use Rattle.live.specs.Live.{labelOf, savedOf, stateOf, movedTo};
+ghost use Rattle.live.specs.Parts.{FineLabels, FineSaved, FineFrames, FineCalls};
 ghost use Rattle.permits.specs.Chains.{Chained};
 ghost use Rattle.moves.specs.Below.{Supers};
 ghost use Rattle.moves.specs.Answers.{Answers};
@@ -59,8 +60,8 @@ fn holds_all(
 
 // r labelled c joins the running frame, where there is room for it.
 fn put(labels: &mut [u16; 544], at: Counts, r: u8, c: u8) -> Counts
+    requires { ⌜ FineLabels (now labels) at ⌝ }
     requires { ⌜ at .n < 32 ⌝ }
-    requires { ⌜ at .depth ≤ 16 ⌝ }
     ensures { λ t. ⌜ ((ks os cs : List ℕ) → Fine (stateOf (now (labels .entry)) ks os cs at) → stateOf (now (labels .exit)) ks os cs t ≡ pack (withLabel (view (stateOf (now (labels .entry)) ks os cs at)) r c)) ⌝ }
 {
     let m = live::add_label(labels, at, r, c);
@@ -69,8 +70,8 @@ fn put(labels: &mut [u16; 544], at: Counts, r: u8, c: u8) -> Counts
 
 // The argument r of number i joins the running frame at its parameter's type.
 fn pass_one(labels: &mut [u16; 544], at: Counts, r: u8, called: Method, i: usize) -> Counts
+    requires { ⌜ FineLabels (now labels) at ⌝ }
     requires { ⌜ at .n < 32 ⌝ }
-    requires { ⌜ at .depth ≤ 16 ⌝ }
     requires { ⌜ i < 6 ⌝ }
     ensures { λ t. ⌜ ((ks os cs : List ℕ) → Fine (stateOf (now (labels .entry)) ks os cs at) → stateOf (now (labels .exit)) ks os cs t ≡ pack (withLabel (view (stateOf (now (labels .entry)) ks os cs at)) r (getD (called .params) i 0))) ⌝ }
 {
@@ -80,7 +81,7 @@ fn pass_one(labels: &mut [u16; 544], at: Counts, r: u8, called: Method, i: usize
 
 // The arguments join the running frame at the parameter types.
 fn pass(labels: &mut [u16; 544], from: Counts, k: Step, at: usize, called: Method) -> Counts
-    requires { ⌜ ((ks : List ℕ) × ((os : List ℕ) × ((cs : List ℕ) × Fine (stateOf (now labels) ks os cs from)))) ⌝ }
+    requires { ⌜ FineLabels (now labels) from ⌝ }
     requires { ⌜ from .n ≤ 1 ⌝ }
     requires { ⌜ at ≤ 4 ⌝ }
     requires { ⌜ called .k ≤ 6 ⌝ }
@@ -101,7 +102,7 @@ fn pass(labels: &mut [u16; 544], from: Counts, k: Step, at: usize, called: Metho
 
 // The running frame is saved, and the method runs over a frame without labels.
 fn push(saved: &mut [u32; 16], at: Counts, pending: u8, method: u8) -> Counts
-    requires { ⌜ at .n ≤ 32 ⌝ }
+    requires { ⌜ FineSaved (now saved) at ⌝ }
     requires { ⌜ at .depth < 16 ⌝ }
     ensures { λ t. ⌜ ((ls ks os : List ℕ) → Fine (stateOf ls ks os (now (saved .entry)) at) → stateOf ls ks os (now (saved .exit)) t ≡ pack (called (view (stateOf ls ks os (now (saved .entry)) at)) (typeOrNone pending) method [])) ⌝ }
 {
@@ -124,7 +125,7 @@ fn call_static(
     called: Method,
     number: u8,
 ) -> Moved
-    requires { ⌜ ((ks : List ℕ) × ((os : List ℕ) × Fine (stateOf (now labels) ks os (now saved) at))) ⌝ }
+    requires { ⌜ FineFrames (now labels) (now saved) at ⌝ }
     requires { ⌜ called .k ≤ 6 ⌝ }
     requires { ⌜ byte (k .b) 2 ≡ called .k ⌝ }
     ensures { λ m. ⌜ ((ks os : List ℕ) → Answers (λ t. call t (typeOrNone (called .result)) number (passed (argumentsAt (k .b) 2) (paramsIn called))) (stateOf (now (labels .entry)) ks os (now (saved .entry)) at) (movedTo m (now (labels .exit)) ks os (now (saved .exit)))) ⌝ }
@@ -148,7 +149,7 @@ fn call_method(
     v: u8,
     r: u8,
 ) -> Moved
-    requires { ⌜ ((ks : List ℕ) × ((os : List ℕ) × Fine (stateOf (now labels) ks os (now saved) at))) ⌝ }
+    requires { ⌜ FineFrames (now labels) (now saved) at ⌝ }
     requires { ⌜ called .k ≤ 6 ⌝ }
     requires { ⌜ byte (k .b) 4 ≡ called .k ⌝ }
     ensures { λ m. ⌜ ((ks os : List ℕ) → Answers (λ t. call t (typeOrNone (called .result)) v (label r (runs .class) ∷ passed (argumentsAt (k .b) 4) (paramsIn called))) (stateOf (now (labels .entry)) ks os (now (saved .entry)) at) (movedTo m (now (labels .exit)) ks os (now (saved .exit)))) ⌝ }
@@ -171,7 +172,7 @@ pub fn invokestatic(
     k: Step,
     called: Method,
 ) -> Moved
-    requires { ⌜ ((ks : List ℕ) × ((os : List ℕ) × Fine (stateOf (now labels) ks os (now saved) at))) ⌝ }
+    requires { ⌜ FineFrames (now labels) (now saved) at ⌝ }
     requires { ⌜ ((P : Package) × (Chained P (now effects) × MethodAt P (byte (k .b) 1) called)) ⌝ }
     ensures { λ m. ⌜ ((P : Package) → Chained P (now (effects .entry)) → MethodAt P (byte (k .b) 1) called → (ks os : List ℕ) → Answers (λ t. step P t (invokestatic (byte (k .b) 1) (argumentsAt (k .b) 2))) (stateOf (now (labels .entry)) ks os (now (saved .entry)) at) (movedTo m (now (labels .exit)) ks os (now (saved .exit)))) ⌝ }
 {
@@ -222,7 +223,7 @@ pub fn invokemethod(
     called: Method,
     runs: Method,
 ) -> Moved
-    requires { ⌜ ((ks : List ℕ) × Fine (stateOf (now labels) ks (now pool) (now saved) at)) ⌝ }
+    requires { ⌜ FineCalls (now labels) (now pool) (now saved) at ⌝ }
     requires { ⌜ ((P : Package) × (Chained P (now effects) × (Supers P (now rows) × (MethodAt P (byte (k .b) 1) called × MethodAt P (byte (k .b) 2) runs)))) ⌝ }
     ensures { λ m. ⌜ ((P : Package) → Chained P (now (effects .entry)) → Supers P (now (rows .entry)) → MethodAt P (byte (k .b) 1) called → MethodAt P (byte (k .b) 2) runs → (ks : List ℕ) → Answers (λ t. step P t (invokemethod (byte (k .b) 1) (byte (k .b) 2) (byte (k .b) 3) (argumentsAt (k .b) 4))) (stateOf (now (labels .entry)) ks (now (pool .entry)) (now (saved .entry)) at) (movedTo m (now (labels .exit)) ks (now (pool .entry)) (now (saved .exit)))) ⌝ }
 {
@@ -267,8 +268,7 @@ fn saved_method(x: u32) -> u8
 
 // The running frame is given up for the newest of the saved ones.
 fn pop(labels: &mut [u16; 544], saved: &mut [u32; 16], at: Counts) -> Counts
-    requires { ⌜ at .n ≤ 32 ⌝ }
-    requires { ⌜ at .depth ≤ 16 ⌝ }
+    requires { ⌜ FineFrames (now labels) (now saved) at ⌝ }
     requires { ⌜ 0 < at .depth ⌝ }
     ensures { λ t. ⌜ ((ks os : List ℕ) → Fine (stateOf (now (labels .entry)) ks os (now (saved .entry)) at) → stateOf (now (labels .exit)) ks os (now (saved .exit)) t ≡ pack (left (view (stateOf (now (labels .entry)) ks os (now (saved .entry)) at)) (view (stateOf (now (labels .entry)) ks os (now (saved .entry)) at) .saved))) ⌝ }
 {
@@ -297,7 +297,7 @@ fn has_room(labels: &[u16; 544], depth: usize, n: usize, r: u8, c: u8) -> bool
 
 // 29 rr
 pub fn back(labels: &mut [u16; 544], saved: &mut [u32; 16], at: Counts, r: u8) -> Moved
-    requires { ⌜ ((ks : List ℕ) × ((os : List ℕ) × Fine (stateOf (now labels) ks os (now saved) at))) ⌝ }
+    requires { ⌜ FineFrames (now labels) (now saved) at ⌝ }
     ensures { λ m. ⌜ ((P : Package) → (ks os : List ℕ) → Answers (λ t. step P t (return r)) (stateOf (now (labels .entry)) ks os (now (saved .entry)) at) (movedTo m (now (labels .exit)) ks os (now (saved .exit)))) ⌝ }
 {
     if at.depth == 0 {

@@ -6,9 +6,10 @@ ghost use mathlib.Core.List.{List, map};
 ghost use Prim.Native.Nat.{ℕ, _+_, _*_, _≤_, _<_};
 ghost use lib.ListN.{length};
 ghost use Rattle.runs.specs.Steps.{holds, holdsRef, hasLink, inPool, join, make, link};
-ghost use Rattle.state.specs.View.{frameView, linksView, linkView, view};
+ghost use Rattle.state.specs.View.{frameView, linksView, linkView, poolFrom, view};
 ghost use Rattle.state.specs.Fine.{Fine, doneOf};
 ghost use Rattle.live.specs.Live.{labelOf, linkOf, labelNumber, linkNumber, savedNumber, stateOf, movedTo};
+ghost use Rattle.live.specs.Parts.{FineLabels, FineLinks, FineObjects};
 
 pub mod structs;
 
@@ -95,7 +96,7 @@ pub fn has_link(links: &[u32; 256], n: usize, k: u32) -> bool
 
 // r labelled c joins the running frame. It is the definition's step whatever the other rows are.
 pub fn add_label(labels: &mut [u16; 544], at: Counts, r: u8, c: u8) -> Moved
-    requires { ⌜ (at .n ≤ 32) × (at .depth ≤ 16) ⌝ }
+    requires { ⌜ FineLabels (now labels) at ⌝ }
     ensures { λ m. ⌜ ((ks os cs : List ℕ) → Fine (stateOf (now (labels .entry)) ks os cs at) → movedTo m (now (labels .exit)) ks os cs ≡ doneOf (stateOf (now (labels .entry)) ks os cs at) (join (view (stateOf (now (labels .entry)) ks os cs at)) r c)) ⌝ }
 {
     let n = at.n;
@@ -113,7 +114,7 @@ pub fn add_label(labels: &mut [u16; 544], at: Counts, r: u8, c: u8) -> Moved
 
 // A link joins the links.
 pub fn add_link(links: &mut [u32; 256], at: Counts, k: u32) -> Moved
-    requires { ⌜ at .nlinks ≤ 256 ⌝ }
+    requires { ⌜ FineLinks (now links) at ⌝ }
     ensures { λ m. ⌜ ((ls os cs : List ℕ) → Fine (stateOf ls (now (links .entry)) os cs at) → movedTo m ls (now (links .exit)) os cs ≡ doneOf (stateOf ls (now (links .entry)) os cs at) (link (view (stateOf ls (now (links .entry)) os cs at)) (linkView (linkOf k)))) ⌝ }
 {
     let n = at.nlinks;
@@ -131,8 +132,9 @@ pub fn add_link(links: &mut [u32; 256], at: Counts, k: u32) -> Moved
 
 // The new object r of class c joins the pool, and r labelled c the running frame.
 pub fn add_object(labels: &mut [u16; 544], pool: &mut [u8; 256], at: Counts, r: u8, c: u8) -> Moved
-    requires { ⌜ (at .n ≤ 32) × (at .depth ≤ 16) ⌝ }
-    ensures { λ m. ⌜ ((ks cs : List ℕ) → Fine (stateOf (now (labels .entry)) ks (now (pool .entry)) cs at) → inPool (view (stateOf (now (labels .entry)) ks (now (pool .entry)) cs at) .pool) r ≡ false → movedTo m (now (labels .exit)) ks (now (pool .exit)) cs ≡ doneOf (stateOf (now (labels .entry)) ks (now (pool .entry)) cs at) (make (view (stateOf (now (labels .entry)) ks (now (pool .entry)) cs at)) r c)) ⌝ }
+    requires { ⌜ FineObjects (now labels) (now pool) at ⌝ }
+    requires { ⌜ inPool (poolFrom 0 (now pool)) r ≡ false ⌝ }
+    ensures { λ m. ⌜ ((ks cs : List ℕ) → Fine (stateOf (now (labels .entry)) ks (now (pool .entry)) cs at) → movedTo m (now (labels .exit)) ks (now (pool .exit)) cs ≡ doneOf (stateOf (now (labels .entry)) ks (now (pool .entry)) cs at) (make (view (stateOf (now (labels .entry)) ks (now (pool .entry)) cs at)) r c)) ⌝ }
 {
     let m = add_label(labels, at, r, c);
     if m.code == 0 {

@@ -142,7 +142,7 @@ pub fn saved_from(rows: &[u32; 16]) -> [Saved; 16]
     r
 }
 
-// The state that rows and counts mean.
+// The fine state that rows and counts mean.
 pub fn state_from(
     labels: &[u16; 544],
     links: &[u32; 256],
@@ -150,7 +150,8 @@ pub fn state_from(
     saved: &[u32; 16],
     at: Counts,
 ) -> State
-    ensures { λ s. ⌜ (Fine (stateOf (now (labels .entry)) (now (links .entry)) pool (now (saved .entry)) at) → s ≡ stateOf (now (labels .entry)) (now (links .entry)) pool (now (saved .entry)) at) ⌝ }
+    requires { ⌜ Fine (stateOf (now labels) (now links) pool (now saved) at) ⌝ }
+    ensures { λ s. ⌜ s ≡ stateOf (now (labels .entry)) (now (links .entry)) pool (now (saved .entry)) at ⌝ }
 {
     State {
         pool: pool,

@@ -10,6 +10,7 @@ ghost use Rattle.runs.specs.Machine.{widen, new, checkcast, getstatic, putstati
 ghost use Rattle.runs.specs.Steps.{holdsBelow, isA, step};
 ghost use Rattle.state.specs.View.{labelView, linkView, frameView, poolFrom};
 ghost use Rattle.live.specs.Live.{labelOf, linkOf, stateOf, movedTo};
+ghost use Rattle.live.specs.Parts.{FineLabels, FineObjects, FineFields};
 ghost use Rattle.permits.specs.Fields.{Pairs};
 ghost use Rattle.permits.specs.Chains.{Chained};
 ghost use Rattle.moves.specs.Linked.{readBy, writtenBy};
@@ -89,7 +90,7 @@ pub fn is_a(rows: &[u64; 254], pool: &[u8; 256], r: u8, b: u8) -> bool
 
 // 20 rr bb
 pub fn widen(labels: &mut [u16; 544], at: Counts, rows: &[u64; 254], r: u8, b: u8) -> Moved
-    requires { ⌜ (at .n ≤ 32) × (at .depth ≤ 16) ⌝ }
+    requires { ⌜ FineLabels (now labels) at ⌝ }
     requires { ⌜ ((P : Package) × Supers P (now rows)) ⌝ }
     ensures { λ m. ⌜ ((P : Package) → Supers P (now (rows .entry)) → (ks os cs : List ℕ) → Answers (λ t. step P t (widen r b)) (stateOf (now (labels .entry)) ks os cs at) (movedTo m (now (labels .exit)) ks os cs)) ⌝ }
 {
@@ -108,7 +109,7 @@ pub fn new(
     r: u8,
     b: u8,
 ) -> Moved
-    requires { ⌜ (at .n ≤ 32) × (at .depth ≤ 16) ⌝ }
+    requires { ⌜ FineObjects (now labels) (now pool) at ⌝ }
     requires { ⌜ ((P : Package) × Chained P (now effects)) ⌝ }
     ensures { λ m. ⌜ ((P : Package) → Chained P (now (effects .entry)) → (ks cs : List ℕ) → Answers (λ t. step P t (new r b)) (stateOf (now (labels .entry)) ks (now (pool .entry)) cs at) (movedTo m (now (labels .exit)) ks (now (pool .exit)) cs)) ⌝ }
 {
@@ -133,7 +134,7 @@ pub fn checkcast(
     r: u8,
     b: u8,
 ) -> Moved
-    requires { ⌜ (at .n ≤ 32) × (at .depth ≤ 16) ⌝ }
+    requires { ⌜ FineObjects (now labels) (now pool) at ⌝ }
     requires { ⌜ ((P : Package) × (Chained P (now effects) × Supers P (now rows))) ⌝ }
     ensures { λ m. ⌜ ((P : Package) → Chained P (now (effects .entry)) → Supers P (now (rows .entry)) → (ks cs : List ℕ) → Answers (λ t. step P t (checkcast r b)) (stateOf (now (labels .entry)) ks (now (pool .entry)) cs at) (movedTo m (now (labels .exit)) ks (now (pool .entry)) cs)) ⌝ }
 {
@@ -163,7 +164,7 @@ fn link_of(pairs: &[u16; 256], owner: u8, f: u8, target: u8) -> u32
 
 // The target of a link that is there joins the running frame at the link's type.
 fn read(labels: &mut [u16; 544], links: &[u32; 256], at: Counts, k: u32) -> Moved
-    requires { ⌜ (at .nlinks ≤ 256) × ((at .n ≤ 32) × (at .depth ≤ 16)) ⌝ }
+    requires { ⌜ FineFields (now labels) (now links) at ⌝ }
     ensures { λ m. ⌜ ((os cs : List ℕ) → Answers (λ t. readBy t (linkView (linkOf k))) (stateOf (now (labels .entry)) (now (links .entry)) os cs at) (movedTo m (now (labels .exit)) (now (links .entry)) os cs)) ⌝ }
 {
     if !live::has_link(links, at.nlinks, k) {
@@ -174,7 +175,7 @@ fn read(labels: &mut [u16; 544], links: &[u32; 256], at: Counts, k: u32) -> Move
 
 // A link whose target the running frame holds at the link's type joins the links.
 fn write(labels: &[u16; 544], links: &mut [u32; 256], at: Counts, k: u32) -> Moved
-    requires { ⌜ (at .nlinks ≤ 256) × ((at .n ≤ 32) × (at .depth ≤ 16)) ⌝ }
+    requires { ⌜ FineFields (now labels) (now links) at ⌝ }
     ensures { λ m. ⌜ ((os cs : List ℕ) → Answers (λ t. writtenBy t (linkView (linkOf k))) (stateOf (now (labels .entry)) (now (links .entry)) os cs at) (movedTo m (now (labels .entry)) (now (links .exit)) os cs)) ⌝ }
 {
     if !live::has_label(
@@ -199,7 +200,7 @@ pub fn getstatic(
     f: u8,
     q: u8,
 ) -> Moved
-    requires { ⌜ (at .nlinks ≤ 256) × ((at .n ≤ 32) × (at .depth ≤ 16)) ⌝ }
+    requires { ⌜ FineFields (now labels) (now links) at ⌝ }
     requires { ⌜ ((P : Package) × (Pairs P (now pairs) × Chained P (now effects))) ⌝ }
     ensures { λ m. ⌜ ((P : Package) → Pairs P (now (pairs .entry)) → Chained P (now (effects .entry)) → (os cs : List ℕ) → Answers (λ t. step P t (getstatic f q)) (stateOf (now (labels .entry)) (now (links .entry)) os cs at) (movedTo m (now (labels .exit)) (now (links .entry)) os cs)) ⌝ }
 {
@@ -219,7 +220,7 @@ pub fn putstatic(
     f: u8,
     q: u8,
 ) -> Moved
-    requires { ⌜ (at .nlinks ≤ 256) × ((at .n ≤ 32) × (at .depth ≤ 16)) ⌝ }
+    requires { ⌜ FineFields (now labels) (now links) at ⌝ }
     requires { ⌜ ((P : Package) × (Pairs P (now pairs) × Chained P (now effects))) ⌝ }
     ensures { λ m. ⌜ ((P : Package) → Pairs P (now (pairs .entry)) → Chained P (now (effects .entry)) → (os cs : List ℕ) → Answers (λ t. step P t (putstatic f q)) (stateOf (now (labels .entry)) (now (links .entry)) os cs at) (movedTo m (now (labels .entry)) (now (links .exit)) os cs)) ⌝ }
 {
@@ -241,7 +242,7 @@ pub fn getfield(
     p: u8,
     q: u8,
 ) -> Moved
-    requires { ⌜ (at .nlinks ≤ 256) × ((at .n ≤ 32) × (at .depth ≤ 16)) ⌝ }
+    requires { ⌜ FineFields (now labels) (now links) at ⌝ }
     requires { ⌜ ((P : Package) × (Pairs P (now pairs) × (Chained P (now effects) × Supers P (now rows)))) ⌝ }
     ensures { λ m. ⌜ ((P : Package) → Pairs P (now (pairs .entry)) → Chained P (now (effects .entry)) → Supers P (now (rows .entry)) → (os cs : List ℕ) → Answers (λ t. step P t (getfield f p q)) (stateOf (now (labels .entry)) (now (links .entry)) os cs at) (movedTo m (now (labels .exit)) (now (links .entry)) os cs)) ⌝ }
 {
@@ -267,7 +268,7 @@ pub fn putfield(
     p: u8,
     q: u8,
 ) -> Moved
-    requires { ⌜ (at .nlinks ≤ 256) × ((at .n ≤ 32) × (at .depth ≤ 16)) ⌝ }
+    requires { ⌜ FineFields (now labels) (now links) at ⌝ }
     requires { ⌜ ((P : Package) × (Pairs P (now pairs) × (Chained P (now effects) × Supers P (now rows)))) ⌝ }
     ensures { λ m. ⌜ ((P : Package) → Pairs P (now (pairs .entry)) → Chained P (now (effects .entry)) → Supers P (now (rows .entry)) → (os cs : List ℕ) → Answers (λ t. step P t (putfield f p q)) (stateOf (now (labels .entry)) (now (links .entry)) os cs at) (movedTo m (now (labels .entry)) (now (links .exit)) os cs)) ⌝ }
 {

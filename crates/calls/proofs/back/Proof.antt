@@ -54,7 +54,7 @@ returns-2 c = λ P ks os f.
     rw (back-void s (c .before .before .before .before .before .before .args .r) (omega (arith, c .before .before .before .before .if1 .left)) (top (c .before .before .before .before .before .before)) (c .before .if2 .taken), ne-eqb _ _ (c .if3 .taken))
 
 pop-requires : tie.Need-pop-requires
-pop-requires c κs = let f = c .before .before .before .before .before .before .before .before .pre .1 .1 in (f .labels, (f .depth, omega (arith, c .before .before .before .before .before .before .if1 .left)))
+pop-requires c κs = (c .before .before .before .before .before .before .before .before .pre, omega (arith, c .before .before .before .before .before .before .if1 .left))
 
 returns-3 : tie.Need-returns-3
 unfolding step
@@ -63,7 +63,7 @@ returns-3 c = λ P ks os f.
     rw (back-void s (c .before .before .before .before .before .before .before .before .before .args .r) (omega (arith, c .before .before .before .before .before .before .before .if1 .left)) (top (c .before .before .before .before .before .before .before .before .before)) (c .before .before .before .before .if2 .taken), eq-eqb _ _ (c .before .before .before .if3 .left)) (ap done (c .pop .ensures ks os f))
 
 has-label-requires : tie.Need-has-label-requires
-has-label-requires c κs = let f = c .before .before .before .before .before .before .pre .1 .1 in omega (arith, f .labels, f .depth)
+has-label-requires c κs = search needs
 
 returns-4 : tie.Need-returns-4
 unfolding step view
@@ -75,7 +75,7 @@ cast-n : tie.Need-cast-n
 cast-n c = search needs
 
 has-room-requires : tie.Need-has-room-requires
-has-room-requires c κs = let a = c .before .before .before .before .before .before .before .before .before .args in let w = c .before .before .before .before .before .before .before .before .before .pre in context-few (a .labels .now) (w .0) (w .1 .0) (a .saved .now) (a .at) (w .1 .1) (omega (arith, c .before .before .before .before .before .before .before .if1 .left))
+has-room-requires c κs = let a = c .before .before .before .before .before .before .before .before .before .args in let w = c .before .before .before .before .before .before .before .before .before .pre in context-few (a .labels .now) (w .links) (w .pool) (a .saved .now) (a .at) (w .fine) (omega (arith, c .before .before .before .before .before .before .before .if1 .left))
 
 returns-5 : tie.Need-returns-5
 unfolding step view
@@ -87,13 +87,13 @@ returns-5 c = λ P ks os f.
     (joins-off s (resuming s (a .r)) (a .r) (k .pending) (resumed-room s (a .r) (omega (arith, c .before .before .before .before .before .before .before .before .before .if1 .left)) (top (c .before .before .before .before .before .before .before .before .before .before .before)) (k .pending) ∙ missing (c .before .has-room .ensures (context-long (a .labels .now) ks os (a .saved .now) (a .at) f (omega (arith, c .before .before .before .before .before .before .before .before .before .if1 .left)))) (c .if5 .taken)))
 
 pop-requires-2 : tie.Need-pop-requires-2
-pop-requires-2 c κs = let f = c .before .before .before .before .before .before .before .before .before .before .before .before .before .pre .1 .1 in (f .labels, (f .depth, omega (arith, c .before .before .before .before .before .before .before .before .before .before .before .if1 .left)))
+pop-requires-2 c κs = (c .before .before .before .before .before .before .before .before .before .before .before .before .before .pre, omega (arith, c .before .before .before .before .before .before .before .before .before .before .before .if1 .left))
 
 add-label-requires : tie.Need-add-label-requires
 add-label-requires c κs =
     let w = c .before .before .before .before .before .before .before .before .before .before .before .before .before .before .before .pre in
-    let g = means-fine (resumed (w .1 .1) (c .before .pop2 .ensures (w .0) (w .1 .0) (w .1 .1))) in
-    (g .labels, g .depth)
+    let g = means-fine (resumed (w .fine) (c .before .pop2 .ensures (w .links) (w .pool) (w .fine))) in
+    record { links = w .links; pool = w .pool; saved = c .before .pop2 .last .1 .0; fine = g }
 
 returns-6 : tie.Need-returns-6
 unfolding step view

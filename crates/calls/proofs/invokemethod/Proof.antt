@@ -14,6 +14,7 @@ use Rattle.state.proofs.Premises.{missing, held}
 use Rattle.meaning.proofs.Bools.{true-passes}
 use Rattle.live.specs.Live.{stateOf}
 use Rattle.live.proofs.Rows.{labels-long}
+use Rattle.live.proofs.Parts.{calls-frames}
 use Rattle.moves.proofs.Lent.{in-row}
 use Rattle.calls.proofs.Arguments.{Asked, held-count}
 use Rattle.calls.proofs.Rows.{few-params, owner-is, params-is, result-is, instance-named, runs-is}
@@ -53,7 +54,7 @@ unfolding step view
 returns c = λ P x w n v ks f. rw (missing (c .before .permitted .ensures P x) (c .if1 .taken))
 
 has-below-requires : tie.Need-has-below-requires
-has-below-requires c κs = let f = c .before .before .before .before .before .before .pre .0 .1 in omega (arith, f .labels, f .depth)
+has-below-requires c κs = search needs
 
 returns-2 : tie.Need-returns-2
 unfolding view
@@ -66,7 +67,7 @@ returns-2 c = λ P x w n v ks f.
     (rw (p, missing (c .before .has-below .ensures .1 P w l) (c .if2 .taken)))
 
 holds-all-requires : tie.Need-holds-all-requires
-holds-all-requires c κs = let f = c .before .before .before .before .before .before .before .before .before .pre .0 .1 in (omega (arith, f .labels, f .depth), (search needs, asked (c .before .before .before .before .before .before .before .before .before) .few))
+holds-all-requires c κs = (search needs, (search needs, asked (c .before .before .before .before .before .before .before .before .before) .few))
 
 returns-3 : tie.Need-returns-3
 unfolding view
@@ -108,7 +109,7 @@ call-method-requires : tie.Need-call-method-requires
 call-method-requires c κs =
     let a = asked (c .before .before .before .before .before .before .before .before .before .before .before .before .before .before .before .before .before) in
     let w = c .before .before .before .before .before .before .before .before .before .before .before .before .before .before .before .before .before .pre .0 in
-    ((w .0, (_, w .1)), (a .few, held-count a _ (true-passes _ (held (c .before .before .before .before .before .before .before .holds-all .ensures (long (c .before .before .before .before .before .before .before .before .before .before .before .before .before .before .before .before .before) (w .0) (w .1))) (c .before .before .before .before .before .before .if3 .left)))))
+    (calls-frames w, (a .few, held-count a _ (true-passes _ (held (c .before .before .before .before .before .before .before .holds-all .ensures (long (c .before .before .before .before .before .before .before .before .before .before .before .before .before .before .before .before .before) (w .links) (w .fine))) (c .before .before .before .before .before .before .if3 .left)))))
 
 returns-6 : tie.Need-returns-6
 unfolding view

@@ -1,6 +1,5 @@
 -- `calls::invokestatic` meets its contract: each test is the definition's, in its order, of the method's row. Assumes nothing.
 use Prim.Native.Nat.{ℕ, _+_, _*_, _≤_}
-use native.Mathlib.Omega.{arith}
 use mathlib.Core.List.{List}
 use lib.ListN.{length}
 use Rattle.runs.specs.Steps.{step}
@@ -33,7 +32,7 @@ element-copy-out-number : tie.Need-element-copy-out-number
 element-copy-out-number c = search needs
 
 holds-all-requires : tie.Need-holds-all-requires
-holds-all-requires c κs = let f = c .before .before .pre .0 .1 .1 in (omega (arith, f .labels, f .depth), (search needs, asked (c .before .before) .few))
+holds-all-requires c κs = (search needs, (search needs, asked (c .before .before) .few))
 
 permitted-requires : tie.Need-permitted-requires
 permitted-requires c κs = search needs
@@ -55,7 +54,7 @@ call-static-requires : tie.Need-call-static-requires
 call-static-requires c κs =
     let a = asked (c .before .before .before .before .before .before .before .before) in
     let w = c .before .before .before .before .before .before .before .before .pre .0 in
-    (w, (a .few, held-count a _ (true-passes _ (held (c .before .before .before .before .before .holds-all .ensures (long (c .before .before .before .before .before .before .before .before) (w .0) (w .1 .0) (w .1 .1))) (c .before .before .if2 .left)))))
+    (w, (a .few, held-count a _ (true-passes _ (held (c .before .before .before .before .before .holds-all .ensures (long (c .before .before .before .before .before .before .before .before) (w .links) (w .pool) (w .fine))) (c .before .before .if2 .left)))))
 
 returns-3 : tie.Need-returns-3
 unfolding view

@@ -39,8 +39,8 @@ pass-one-requires c κs =
     let less = c .before .before .loop-test .taken in
     let few = c .before .before .before .before .before .pre .1 .1 .1 .0 in
     let w = c .before .before .before .before .before .pre .0 in
-    let p = c .before .before .before .loop .inv .1 (w .0) (w .1 .0) (w .1 .1 .0) (w .1 .1 .1) in
-    (omega (arith, p .few, c .before .before .before .before .wide .ensures), (p .fine .depth, omega (arith, c .before .before .before .before .wide .ensures)))
+    let p = c .before .before .before .loop .inv .1 (w .links) (w .pool) (w .saved) (w .fine) in
+    (record { links = w .links; pool = w .pool; saved = w .saved; fine = p .fine }, (omega (arith, p .few, c .before .before .before .before .wide .ensures), omega (arith, c .before .before .before .before .wide .ensures)))
 
 add-i : tie.Need-add-i Inv-loop μ-loop
 add-i c = search needs

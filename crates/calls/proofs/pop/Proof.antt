@@ -32,7 +32,7 @@ saved-method-requires : tie.Need-saved-method-requires
 saved-method-requires c κs = search needs
 
 returns : tie.Need-returns
-returns c = λ ks os f. let a = c .before .before .before .before .before .args in frame-cleared (a .labels .now) ks os (a .saved .now) (a .at) (c .before .before .before .clear .last .0) _ (c .before .before .before .clear .ensures (labels-long (a .labels .now) ks os (a .saved .now) (a .at) f)) (c .saved-method .ensures) ∙ popped f (c .before .before .before .before .before .pre .1 .1)
+returns c = λ ks os f. let a = c .before .before .before .before .before .args in frame-cleared (a .labels .now) ks os (a .saved .now) (a .at) (c .before .before .before .clear .last .0) _ (c .before .before .before .clear .ensures (labels-long (a .labels .now) ks os (a .saved .now) (a .at) f)) (c .saved-method .ensures) ∙ popped f (c .before .before .before .before .before .pre .1)
 
 pub pop-spec : {M : Type 1} → statement M
 pop-spec =

@@ -19,7 +19,7 @@ add-t7 : tie.Need-add-t7
 add-t7 c = search needs
 
 returns : tie.Need-returns
-returns c = λ ls ks os f. let a = c .before .args in rw (c .saved-number .ensures) (context-stored ls ks os (a .saved .now) (a .at) (a .pending) (a .method) (search needs) (c .before .pre .0) ∙ pushed f (a .pending) (a .method) (c .before .pre .1))
+returns c = λ ls ks os f. let a = c .before .args in rw (c .saved-number .ensures) (context-stored ls ks os (a .saved .now) (a .at) (a .pending) (a .method) (search needs) (c .before .pre .0 .fine .labels) ∙ pushed f (a .pending) (a .method) (c .before .pre .1))
 
 pub push-spec : {M : Type 1} → statement M
 push-spec = tie.close (tie.spec saved-number-requires mul-saved element-write-saved add-t7 returns)

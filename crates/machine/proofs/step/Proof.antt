@@ -36,14 +36,14 @@ step-on-requires : tie.Need-step-on-requires
 step-on-requires c κs = (subst Fine (sym (same (c .before .before .before .before))) (c .before .before .before .before .before .before .before .before .before .pre .0), c .before .before .before .before .before .before .before .before .before .pre .1)
 
 state-from-requires : tie.Need-state-from-requires
-state-from-requires c κs = search needs
+state-from-requires c κs = c .before .before .before .step-on .ensures .1
 
 returns : tie.Need-returns
 returns c =
     let m = c .before .before .before .before .step-on in
     let start = c .before .before .before .before .before .before .before .before .before .before .before .before .before .before in
     let e = same (c .before .before .before .before .before .before .before .before .before) in
-    let is = c .state-from .ensures (m .ensures .1) in (
+    let is = c .state-from .ensures in (
       λ P q n.
           ap (λ (x : State). record { code = m .result .code; state = x }) is
           ∙ m .ensures .0 P q n (subst Fine (sym e) (start .pre .0))

@@ -23,34 +23,34 @@ element-copy-out-match : tie.Need-element-copy-out-match
 element-copy-out-match c = search needs
 
 widen-requires : tie.Need-widen-requires
-widen-requires c κs = search needs
+widen-requires c κs = let b = c .before .before .before .before .before .before in let a = b .args in let f = b .pre .0 in let p = b .pre .1 in let e = p .1 .0 in (record { links = a .links .now; pool = a .pool .now; saved = a .saved .now; fine = f }, (p .0, e .supers))
 
 new-requires : tie.Need-new-requires
-new-requires c κs = search needs
+new-requires c κs = let b = c .before .before .before .before .before .before .before in let a = b .args in let f = b .pre .0 in let p = b .pre .1 in let e = p .1 .0 in (record { links = a .links .now; saved = a .saved .now; fine = f }, (p .0, e .permits))
 
 checkcast-requires : tie.Need-checkcast-requires
-checkcast-requires c κs = let b = c .before .before .before .before .before .before .before in let f = b .pre .0 in let p = b .pre .1 in let e = p .1 .0 in ((f .labels, f .depth), (p .0, (e .permits, e .supers)))
+checkcast-requires c κs = let b = c .before .before .before .before .before .before .before in let a = b .args in let f = b .pre .0 in let p = b .pre .1 in let e = p .1 .0 in (record { links = a .links .now; saved = a .saved .now; fine = f }, (p .0, (e .permits, e .supers)))
 
 getstatic-requires : tie.Need-getstatic-requires
-getstatic-requires c κs = let b = c .before .before .before .before .before .before .before in let f = b .pre .0 in let p = b .pre .1 in let e = p .1 .0 in ((f .links, (f .labels, f .depth)), (p .0, (e .fields, e .permits)))
+getstatic-requires c κs = let b = c .before .before .before .before .before .before .before in let a = b .args in let f = b .pre .0 in let p = b .pre .1 in let e = p .1 .0 in (record { pool = a .pool .now; saved = a .saved .now; fine = f }, (p .0, (e .fields, e .permits)))
 
 putstatic-requires : tie.Need-putstatic-requires
-putstatic-requires c κs = let b = c .before .before .before .before .before .before .before in let f = b .pre .0 in let p = b .pre .1 in let e = p .1 .0 in ((f .links, (f .labels, f .depth)), (p .0, (e .fields, e .permits)))
+putstatic-requires c κs = let b = c .before .before .before .before .before .before .before in let a = b .args in let f = b .pre .0 in let p = b .pre .1 in let e = p .1 .0 in (record { pool = a .pool .now; saved = a .saved .now; fine = f }, (p .0, (e .fields, e .permits)))
 
 getfield-requires : tie.Need-getfield-requires
-getfield-requires c κs = let b = c .before .before .before .before .before .before .before in let f = b .pre .0 in let p = b .pre .1 in let e = p .1 .0 in ((f .links, (f .labels, f .depth)), (p .0, (e .fields, (e .permits, e .supers))))
+getfield-requires c κs = let b = c .before .before .before .before .before .before .before in let a = b .args in let f = b .pre .0 in let p = b .pre .1 in let e = p .1 .0 in (record { pool = a .pool .now; saved = a .saved .now; fine = f }, (p .0, (e .fields, (e .permits, e .supers))))
 
 putfield-requires : tie.Need-putfield-requires
-putfield-requires c κs = let b = c .before .before .before .before .before .before .before in let f = b .pre .0 in let p = b .pre .1 in let e = p .1 .0 in ((f .links, (f .labels, f .depth)), (p .0, (e .fields, (e .permits, e .supers))))
+putfield-requires c κs = let b = c .before .before .before .before .before .before .before in let a = b .args in let f = b .pre .0 in let p = b .pre .1 in let e = p .1 .0 in (record { pool = a .pool .now; saved = a .saved .now; fine = f }, (p .0, (e .fields, (e .permits, e .supers))))
 
 invokestatic-requires : tie.Need-invokestatic-requires
-invokestatic-requires c κs = let b = c .before .before .before .before .before .before .before in let f = b .pre .0 in let p = b .pre .1 in let e = p .1 .0 in ((b .args .links .now, (b .args .pool .now, f)), (p .0, (e .permits, p .1 .1 .first)))
+invokestatic-requires c κs = let b = c .before .before .before .before .before .before .before in let a = b .args in let f = b .pre .0 in let p = b .pre .1 in let e = p .1 .0 in (record { links = a .links .now; pool = a .pool .now; fine = f }, (p .0, (e .permits, p .1 .1 .first)))
 
 invokemethod-requires : tie.Need-invokemethod-requires
-invokemethod-requires c κs = let b = c .before .before .before .before .before .before .before .before in let f = b .pre .0 in let p = b .pre .1 in let e = p .1 .0 in ((b .args .links .now, f), (p .0, (e .permits, (e .supers, (p .1 .1 .first, p .1 .1 .second)))))
+invokemethod-requires c κs = let b = c .before .before .before .before .before .before .before .before in let a = b .args in let f = b .pre .0 in let p = b .pre .1 in let e = p .1 .0 in (record { links = a .links .now; fine = f }, (p .0, (e .permits, (e .supers, (p .1 .1 .first, p .1 .1 .second)))))
 
 back-requires : tie.Need-back-requires
-back-requires c κs = let b = c .before .before .before .before .before .before .before in (b .args .links .now, (b .args .pool .now, b .pre .0))
+back-requires c κs = let b = c .before .before .before .before .before .before .before in let a = b .args in record { links = a .links .now; pool = a .pool .now; fine = b .pre .0 }
 
 -- the state of the rows that are lent
 abbrev lent : tie.Start → State

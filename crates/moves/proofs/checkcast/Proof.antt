@@ -4,6 +4,7 @@ use Rattle.runs.specs.Steps.{step}
 use Rattle.state.specs.View.{view}
 use Rattle.state.proofs.Premises.{missing, held}
 use Rattle.live.proofs.Rows.{labels-long}
+use Rattle.live.proofs.Parts.{objects-labels}
 use Rattle.moves.proofs.Lent.{in-row}
 use Rattle.moves.proofs.checkcast.Statement.{statement}
 use Rattle.moves.proofs.checkcast.Tie as tie
@@ -37,7 +38,7 @@ returns-3 c = λ P x w ks cs f.
     rw (held (c .before .before .before .before .before .before .permitted .ensures P x) (c .before .before .before .before .before .if1 .left), held (c .before .before .before .has-ref .ensures h) (c .before .before .if2 .left), missing (c .before .is-a .ensures .1 P w l) (c .if3 .taken))
 
 add-label-requires : tie.Need-add-label-requires
-add-label-requires c κs = search needs
+add-label-requires c κs = objects-labels (c .before .before .before .before .before .before .before .before .pre .0)
 
 returns-4 : tie.Need-returns-4
 unfolding step view

@@ -1,13 +1,20 @@
 -- `moves::new` meets its contract: each test is the definition's, in its order. Assumes nothing.
-use mathlib.Core.Path.{_∙_}
+use mathlib.Core.Path.{_≡_, _∙_}
+use mathlib.Core.Bool.{not}
+use lib.Dec.{eqb}
+use lib.ListN.{getD}
 use borrow.Author.Needs.{needs}
-use Rattle.runs.specs.Steps.{step}
-use Rattle.state.specs.View.{view}
+use Rattle.runs.specs.Steps.{inPool, step}
+use Rattle.state.specs.View.{poolFrom, view}
 use Rattle.state.proofs.Pool.{read-has}
 use Rattle.state.proofs.Premises.{missing, held}
 use Rattle.moves.proofs.Lent.{in-row}
 use Rattle.moves.proofs.new.Statement.{statement}
 use Rattle.moves.proofs.new.Tie as tie
+
+-- what stands at the number's place in the pool tells whether it is an object's
+placed : (b : tie.Start) → inPool (poolFrom 0 (b .args .pool .now)) (b .args .r) ≡ not (eqb (getD (b .args .pool .now) (b .args .r) 0) 0xFF)
+placed b = let a = b .args in let w = b .pre .0 in read-has (a .pool .now) (a .r) (in-row (a .labels .now) (w .links) (a .pool .now) (w .saved) (a .at) (w .fine) (a .r) (search needs))
 
 element-copy-out-taken : tie.Need-element-copy-out-taken
 element-copy-out-taken c = search needs
@@ -21,21 +28,16 @@ returns c = λ P x ks cs f. rw (missing (c .before .permitted .ensures P x) (c .
 
 returns-2 : tie.Need-returns-2
 unfolding step view
-returns-2 c = λ P x ks cs f.
-    let a = c .before .before .before .before .args in
-    let l = read-has (a .pool .now) (a .r) (in-row (a .labels .now) ks (a .pool .now) cs (a .at) f (a .r) (search needs)) in
-    rw (held (c .before .before .permitted .ensures P x) (c .before .if1 .left), l ∙ c .if2 .taken)
+returns-2 c = λ P x ks cs f. rw (held (c .before .before .permitted .ensures P x) (c .before .if1 .left), placed (c .before .before .before .before) ∙ c .if2 .taken)
 
 add-object-requires : tie.Need-add-object-requires
-add-object-requires c κs = search needs
+add-object-requires c κs = let b = c .before .before .before .before .before .before in (b .pre .0, placed b ∙ c .before .before .if2 .left)
 
 returns-3 : tie.Need-returns-3
 unfolding step view
 returns-3 c = λ P x ks cs f.
-    let a = c .before .before .before .before .before .before .before .args in
-    let l = read-has (a .pool .now) (a .r) (in-row (a .labels .now) ks (a .pool .now) cs (a .at) f (a .r) (search needs)) in
-    let free = l ∙ c .before .before .before .if2 .left in
-    rw (held (c .before .before .before .before .before .permitted .ensures P x) (c .before .before .before .before .if1 .left), free) (c .add-object .ensures ks cs f free)
+    let free = placed (c .before .before .before .before .before .before .before) ∙ c .before .before .before .if2 .left in
+    rw (held (c .before .before .before .before .before .permitted .ensures P x) (c .before .before .before .before .if1 .left), free) (c .add-object .ensures ks cs f)
 
 pub new-spec : {M : Type 1} → statement M
 new-spec =

@@ -3,6 +3,7 @@ use borrow.Author.Needs.{needs}
 use Rattle.state.specs.View.{view}
 use Rattle.state.proofs.Premises.{missing, held}
 use Rattle.live.proofs.Rows.{links-long}
+use Rattle.live.proofs.Parts.{fields-labels}
 use Rattle.moves.specs.Linked.{readBy}
 use Rattle.moves.proofs.read.Statement.{statement}
 use Rattle.moves.proofs.read.Tie as tie
@@ -24,7 +25,7 @@ cast-add-label-2 : tie.Need-cast-add-label-2
 cast-add-label-2 c = search needs
 
 add-label-requires : tie.Need-add-label-requires
-add-label-requires c κs = search needs
+add-label-requires c κs = fields-labels (c .before .before .before .pre)
 
 returns-2 : tie.Need-returns-2
 unfolding readBy view

@@ -3,6 +3,7 @@ use borrow.Author.Needs.{needs}
 use Rattle.state.specs.View.{view}
 use Rattle.state.proofs.Premises.{missing, held}
 use Rattle.live.proofs.Rows.{labels-long}
+use Rattle.live.proofs.Parts.{fields-links}
 use Rattle.moves.specs.Linked.{writtenBy}
 use Rattle.moves.proofs.write.Statement.{statement}
 use Rattle.moves.proofs.write.Tie as tie
@@ -24,7 +25,7 @@ returns c = λ os cs f.
     rw (missing (c .before .has-label .ensures h) (c .if1 .taken))
 
 add-link-requires : tie.Need-add-link-requires
-add-link-requires c κs = search needs
+add-link-requires c κs = fields-links (c .before .before .before .pre)
 
 returns-2 : tie.Need-returns-2
 unfolding writtenBy view

@@ -50,14 +50,14 @@ walk-requires c κs =
     subst (λ (s : State). Walk (a .rows .now) (e .chains .result) (e .before .pairs .result) (a .t .methods) s (a .steps)) (sym (same (c .before .before .before .before .before .before))) (over e (e .before .before .pre .1 .1))
 
 state-from-requires : tie.Need-state-from-requires
-state-from-requires c κs = search needs
+state-from-requires c κs = c .before .before .before .walk .ensures .1
 
 returns : tie.Need-returns
 unfolding over walks
 returns c =
     let o = c .before .before .before .before .walk in
     λ b.
-    ap (λ (x : State). record { number = o .result .number; line = o .result .line; taken = o .result .taken; state = x }) (c .state-from .ensures (o .ensures .1))
+    ap (λ (x : State). record { number = o .result .number; line = o .result .line; taken = o .result .taken; state = x }) (c .state-from .ensures)
     ∙ from-same (same (c .before .before .before .before .before .before .before .before .before .before .before)) (o .ensures .0) (over (c .before .before .before .before .before .before .before .before .before .before .before .before .before .before .before .before) b)
 
 pub take-steps-spec : {M : Type 1} → statement M

@@ -17,7 +17,7 @@ saved-from-requires c κs = search needs
 returns : tie.Need-returns
 returns c =
     let a = c .before .before .before .args in
-    λ f.
+    let f = c .before .before .before .pre in
     let ls = c .before .labels-from .ensures (labels-size (a .labels .now) (a .links .now) (a .pool) (a .saved .now) (a .at) f) in
     let ks = c .before .before .links-from .ensures (links-size (a .labels .now) (a .links .now) (a .pool) (a .saved .now) (a .at) f) in
     let cs = c .saved-from .ensures (saved-size (a .labels .now) (a .links .now) (a .pool) (a .saved .now) (a .at) f) in

@@ -33,7 +33,7 @@ use Rattle.frames.specs.Judging.{at, judgePair, judgeClass, judgeField, judgeMe
 use Rattle.frames.specs.Elements.{pairIn, classIn, fieldIn, methodIn, effectIn}
 use Rattle.frames.proofs.Judged.{Declares, pair-judged, class-judged, field-judged, method-judged, effect-judged}
 use Rattle.frames.proofs.Elements.{has-room, pair-packed, class-packed, field-packed, method-packed, effect-packed}
-use Rattle.package.specs.Sections.{inSection, withPairs, withClasses, withFields, withMethods, withEffects, HasDomains, HasClasses, HasBoth, HasDeclared}
+use Rattle.package.specs.Sections.{inSection, withPairs, withClasses, withFields, withMethods, withEffects, HasDomains, HasClasses, HasBoth, HasDeclared, declaredBy}
 use Rattle.package.proofs.Steps.{Kept}
 
 -- in its own section a frame is taken by its kind
@@ -71,7 +71,7 @@ packed-at f b n xs i d z h = pad-at b n (map f xs) i d (rw (length-map xs f) h) 
 
 -- what the code is told of the number i
 abbrev pub declaredAt : ℕ → Fields → Methods → ℕ → Field → Method → Declared
-declaredAt nc fs ms i field method = record { classes = nc; fields = fs .n; methods = ms .n; field = (getD (fs .at) i field) .stat; method = (getD (ms .at) i method) .stat }
+declaredAt nc fs ms i field method = declaredBy nc (fs .n) (ms .n) (getD (fs .at) i field) (getD (ms .at) i method)
 
 module _ {nc : ℕ} {fs : Fields} {ms : Methods} {P : Package} (h : HasDeclared nc fs ms P) (i : ℕ) (field : Field) (method : Method) where
   declares : Declares P i (declaredAt nc fs ms i field method)
@@ -86,9 +86,9 @@ module _ {nc : ℕ} {fs : Fields} {ms : Methods} {P : Package} (h : HasDeclared 
       }
 
 -- the code looks i up, which is the effect's number
-pub by-number : (nc : ℕ) (fs : Fields) (ms : Methods) (field : Field) (method : Method) (n : ℕ) (f : Frame) {i no : ℕ} → i ≡ at f 3 → no ≡ judgeEffect (declaredAt nc fs ms i field method) n f
+pub by-number : (nc : ℕ) (fs : Fields) (ms : Methods) (field : Field) (method : Method) (n : ℕ) (f : Frame) {i no : ℕ} {d : Declared} → i ≡ at f 3 → d ≡ declaredAt nc fs ms i field method → no ≡ judgeEffect d n f
     → no ≡ judgeEffect (declaredAt nc fs ms (at f 3) field method) n f
-by-number nc fs ms field method n f w j = j ∙ ap (λ (i : ℕ). judgeEffect (declaredAt nc fs ms i field method) n f) w
+by-number nc fs ms field method n f w e j = j ∙ ap (λ (d : Declared). judgeEffect d n f) e ∙ ap (λ (i : ℕ). judgeEffect (declaredAt nc fs ms i field method) n f) w
 
 -- ---- the sections
 

@@ -10,9 +10,12 @@ use lib.ListN.{length, drop}
 use Rattle.meaning.specs.Text.{linesOf}
 use Rattle.meaning.specs.Tables.{Package, Pair, Class, Field, Method, Effect}
 use Rattle.meaning.specs.Reading.{answer, Reader, header, Reading, isRead, isRefused, readLines, noReader}
+use Rattle.tables.specs.declared.Field as F
 use Rattle.tables.specs.declared.Fields.{Fields}
+use Rattle.tables.specs.declared.Method as M
 use Rattle.tables.specs.declared.Methods.{Methods}
 use Rattle.tables.specs.Pack.{packFields, packMethods}
+use Rattle.frames.specs.declared.effects.Declared.{Declared}
 use Rattle.lines.specs.declared.Cursor.{Cursor}
 use Rattle.lines.specs.Cursors.{Within, nextOf}
 use Rattle.package.specs.declared.header.Header.{Header}
@@ -76,6 +79,10 @@ HasClasses nc P = length (P .classes) ≡ nc
 
 abbrev pub HasBoth : ℕ → ℕ → Package → Type 0
 HasBoth nd nc P = HasDomains nd P × HasClasses nc P
+
+-- what is declared, with the rows at the number of an effect's frame
+abbrev pub declaredBy : ℕ → ℕ → ℕ → F.Field → M.Method → Declared
+declaredBy nc nf nm field method = record { classes = nc; fields = nf; methods = nm; field = field .stat; method = method .stat }
 
 pub record HasDeclared (nc : ℕ) (fs : Fields) (ms : Methods) (P : Package) : Type 0 where
   pub classes : HasClasses nc P

@@ -2,19 +2,35 @@
 use frames::effects::Declared;
 use lines::Cursor;
 use tables::Effects;
+use tables::Field;
 use tables::Fields;
+use tables::Method;
 use tables::Methods;
 ghost use mathlib.Core.Path.{_≡_};
 ghost use Rattle.text.specs.Values.{digitTable};
 ghost use Rattle.tables.specs.Pack.{packEffects};
 ghost use Rattle.lines.specs.Cursors.{Within};
-ghost use Rattle.package.specs.Sections.{Section, withEffects, HasDeclared};
+ghost use Rattle.package.specs.Sections.{Section, withEffects, HasDeclared, declaredBy};
 
 pub struct EffectsRead {
     pub next: Cursor,
     pub effects: Effects,
 }
 
+// What is declared, with the rows at the number of an effect's frame: the tables are too large to be handed on for each line.
+fn declared(nc: usize, nf: usize, nm: usize, field: Field, method: Method) -> Declared
+    ensures { λ r. ⌜ r ≡ declaredBy nc nf nm field method ⌝ }
+{
+    Declared {
+        classes: nc,
+        fields: nf,
+        methods: nm,
+        field: field.stat,
+        method: method.stat,
+    }
+}
+
+// With nc classes, the fields and the methods.
 pub(crate) fn read_effects(
     digits: &[u32; 512],
     s: &[u8],
@@ -40,13 +56,7 @@ pub(crate) fn read_effects(
         let i = lines::wide(f[3]);
         let field = fields.at[i];
         let method = methods.at[i];
-        let d = Declared {
-            classes: nc,
-            fields: fields.n,
-            methods: methods.n,
-            field: field.stat,
-            method: method.stat,
-        };
+        let d = declared(nc, fields.n, methods.n, field, method);
         let no = frames::effects::judge_effect(d, n, &f, line.n);
         if no != 0 {
             next.no = no;

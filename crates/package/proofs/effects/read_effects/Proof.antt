@@ -55,17 +55,20 @@ mul-method c = search needs
 element-copy-out-method : tie.Need-element-copy-out-method Inv-loop μ-loop
 element-copy-out-method c = search needs
 
+declared-requires : tie.Need-declared-requires Inv-loop μ-loop
+declared-requires c κs = search needs
+
 judge-effect-requires : tie.Need-judge-effect-requires Inv-loop μ-loop
 judge-effect-requires c κs = search needs
 
 returns-2 : tie.Need-returns-2 Inv-loop μ-loop
-returns-2 c = line-refused (effects-kept _ _ _ _ _) (c .before .before .before .before .before .before .before .before .before .loop .inv) (found _ _ _ (said-cut (c .before .before .before .before .before .before .before .line-into .ensures)) (not-false _ (c .before .before .before .before .before .before .if1 .left))) (by-number (c .before .before .before .before .before .before .before .before .before .before .before .before .args .nc) (c .before .before .before .before .before .before .before .before .before .before .before .before .args .t5) (c .before .before .before .before .before .before .before .before .before .before .before .before .args .t6) _ _ _ _ (c .before .before .before .before .before .wide .ensures .0) (c .before .judge-effect .ensures)) (c .if2 .taken)
+returns-2 c = line-refused (effects-kept _ _ _ _ _) (c .before .before .before .before .before .before .before .before .before .before .loop .inv) (found _ _ _ (said-cut (c .before .before .before .before .before .before .before .before .line-into .ensures)) (not-false _ (c .before .before .before .before .before .before .before .if1 .left))) (by-number (c .before .before .before .before .before .before .before .before .before .before .before .before .before .args .nc) (c .before .before .before .before .before .before .before .before .before .before .before .before .before .args .t5) (c .before .before .before .before .before .before .before .before .before .before .before .before .before .args .t6) _ _ _ _ (c .before .before .before .before .before .before .wide .ensures .0) (c .before .before .before .declared .ensures) (c .before .judge-effect .ensures)) (c .if2 .taken)
 
 effect-of-requires : tie.Need-effect-of-requires Inv-loop μ-loop
 effect-of-requires c κs = search needs
 
-room : (c : tie.After-effect-of Inv-loop μ-loop) → c .before .before .before .before .before .before .before .before .before .before .before .loop .x .n < 1024
-room c = line-room (effects-kept _ _ _ _ _) (c .before .before .before .before .before .before .before .before .before .before .before .loop .inv) (found _ _ _ (said-cut (c .before .before .before .before .before .before .before .before .before .line-into .ensures)) (not-false _ (c .before .before .before .before .before .before .before .before .if1 .left))) (by-number (c .before .before .before .before .before .before .before .before .before .before .before .before .before .before .args .nc) (c .before .before .before .before .before .before .before .before .before .before .before .before .before .before .args .t5) (c .before .before .before .before .before .before .before .before .before .before .before .before .before .before .args .t6) _ _ _ _ (c .before .before .before .before .before .before .before .wide .ensures .0) (c .before .before .before .judge-effect .ensures)) (c .before .before .if2 .left)
+room : (c : tie.After-effect-of Inv-loop μ-loop) → c .before .before .before .before .before .before .before .before .before .before .before .before .loop .x .n < 1024
+room c = line-room (effects-kept _ _ _ _ _) (c .before .before .before .before .before .before .before .before .before .before .before .before .loop .inv) (found _ _ _ (said-cut (c .before .before .before .before .before .before .before .before .before .before .line-into .ensures)) (not-false _ (c .before .before .before .before .before .before .before .before .before .if1 .left))) (by-number (c .before .before .before .before .before .before .before .before .before .before .before .before .before .before .before .args .nc) (c .before .before .before .before .before .before .before .before .before .before .before .before .before .before .before .args .t5) (c .before .before .before .before .before .before .before .before .before .before .before .before .before .before .before .args .t6) _ _ _ _ (c .before .before .before .before .before .before .before .before .wide .ensures .0) (c .before .before .before .before .before .declared .ensures) (c .before .before .before .judge-effect .ensures)) (c .before .before .if2 .left)
 
 mul-t34 : tie.Need-mul-t34 Inv-loop μ-loop
 mul-t34 c = omega (arith, room c)
@@ -77,15 +80,15 @@ add-x : tie.Need-add-x Inv-loop μ-loop
 add-x c = omega (arith, room c)
 
 moved-requires : tie.Need-moved-requires Inv-loop μ-loop
-moved-requires c κs = let d = (found _ _ _ (said-cut (c .before .before .before .before .before .before .before .before .before .line-into .ensures)) (not-false _ (c .before .before .before .before .before .before .before .before .if1 .left))) in omega (arith, d .taken .next, c .before .before .before .before .before .before .before .before .before .before .before .loop .inv .within .line)
+moved-requires c κs = let d = (found _ _ _ (said-cut (c .before .before .before .before .before .before .before .before .before .before .line-into .ensures)) (not-false _ (c .before .before .before .before .before .before .before .before .before .if1 .left))) in omega (arith, d .taken .next, c .before .before .before .before .before .before .before .before .before .before .before .before .loop .inv .within .line)
 
 loop-less : tie.Need-loop-less Inv-loop μ-loop
 loop-less c =
-    let d = (found _ _ _ (said-cut (c .before .before .before .before .before .before .before .before .before .before .line-into .ensures)) (not-false _ (c .before .before .before .before .before .before .before .before .before .if1 .left))) in
-    rw (c .moved .ensures) (omega (arith, moved-within (c .before .before .before .before .before .before .before .before .before .before .before .before .loop .inv .within) d .at, d .taken .next))
+    let d = (found _ _ _ (said-cut (c .before .before .before .before .before .before .before .before .before .before .before .line-into .ensures)) (not-false _ (c .before .before .before .before .before .before .before .before .before .before .if1 .left))) in
+    rw (c .moved .ensures) (omega (arith, moved-within (c .before .before .before .before .before .before .before .before .before .before .before .before .before .loop .inv .within) d .at, d .taken .next))
 
 loop-again : tie.Need-loop-again Inv-loop μ-loop
-loop-again c = rw (c .moved .ensures) (line-on (effects-kept _ _ _ _ _) (c .before .before .before .before .before .before .before .before .before .before .before .before .loop .inv) (found _ _ _ (said-cut (c .before .before .before .before .before .before .before .before .before .before .line-into .ensures)) (not-false _ (c .before .before .before .before .before .before .before .before .before .if1 .left))) (by-number (c .before .before .before .before .before .before .before .before .before .before .before .before .before .before .before .args .nc) (c .before .before .before .before .before .before .before .before .before .before .before .before .before .before .before .args .t5) (c .before .before .before .before .before .before .before .before .before .before .before .before .before .before .before .args .t6) _ _ _ _ (c .before .before .before .before .before .before .before .before .wide .ensures .0) (c .before .before .before .before .judge-effect .ensures)) (c .before .effect-of .ensures) (c .before .before .before .if2 .left))
+loop-again c = rw (c .moved .ensures) (line-on (effects-kept _ _ _ _ _) (c .before .before .before .before .before .before .before .before .before .before .before .before .before .loop .inv) (found _ _ _ (said-cut (c .before .before .before .before .before .before .before .before .before .before .before .line-into .ensures)) (not-false _ (c .before .before .before .before .before .before .before .before .before .before .if1 .left))) (by-number (c .before .before .before .before .before .before .before .before .before .before .before .before .before .before .before .before .args .nc) (c .before .before .before .before .before .before .before .before .before .before .before .before .before .before .before .before .args .t5) (c .before .before .before .before .before .before .before .before .before .before .before .before .before .before .before .before .args .t6) _ _ _ _ (c .before .before .before .before .before .before .before .before .before .wide .ensures .0) (c .before .before .before .before .before .before .declared .ensures) (c .before .before .before .before .judge-effect .ensures)) (c .before .effect-of .ensures) (c .before .before .before .if2 .left))
 
 pub read-effects-spec : {M : Type 1} → statement M
 read-effects-spec =
@@ -103,6 +106,7 @@ read-effects-spec =
     element-copy-out-field
     mul-method
     element-copy-out-method
+    declared-requires
     judge-effect-requires
     returns-2
     effect-of-requires

@@ -83,8 +83,7 @@ fn read_kind(
     requires { ⌜ Within (now s) from ⌝ }
     requires { ⌜ now digits ≡ digitTable ⌝ }
     requires { ⌜ ((kind ≡ 0x12) ⊎ (kind ≡ 0x13)) ⌝ }
-    requires { ⌜ length (now links) ≡ 256 ⌝ }
-    requires { ⌜ SomeLinks (linksIn (now links) before) ⌝ }
+    requires { ⌜ (length (now links) ≡ 256) × SomeLinks (linksIn (now links) before) ⌝ }
     requires { ⌜ nc ≤ 127 ⌝ }
     requires { ⌜ length (now pool) ≡ 256 ⌝ }
     requires { ⌜ ((fields : Fields) × Declares (staticBy kind) fields (now declared)) ⌝ }
@@ -96,8 +95,7 @@ fn read_kind(
     loop {
         let mut f = [0u8; 16];
         let line = lines::line_into(digits, s, next, kind, &mut f);
-        let here = line.ok;
-        if !here {
+        if !line.ok {
             return SetRead { next, counts: x };
         }
         let no = judge_link(kind, nc, x.lines, declared, pool, rows, &f, line.n);
@@ -105,8 +103,7 @@ fn read_kind(
             next.no = no;
             return SetRead { next, counts: x };
         }
-        let k = link_of(kind, &f);
-        x = one_link(links, x, k);
+        x = one_link(links, x, link_of(kind, &f));
         next = lines::moved(next, line.next);
     }
 }

@@ -14,7 +14,7 @@ declare-requires c κs = (c .before .before .pre .1 .1 .1 .1 .0, refl)
 read-kind-requires : tie.Need-read-kind-requires
 read-kind-requires c κs =
     let p = c .before .before .before .before .before .pre .1 .1 in
-    (c .before .before .before .before .before .pre .0, (c .before .before .before .before .before .pre .1 .0, (inl refl, (ap length (p .0), (record { list = []; holds = links-none (p .0) }, (p .1 .0, (p .1 .1 .1, (c .before .before .before .before .before .args .fields, c .before .before .declare .ensures))))))))
+    (c .before .before .before .before .before .pre .0, (c .before .before .before .before .before .pre .1 .0, (inl refl, ((ap length (p .0), record { list = []; holds = links-none (p .0) }), (p .1 .0, (p .1 .1 .1, (c .before .before .before .before .before .args .fields, c .before .before .declare .ensures)))))))
 
 declare-requires-2 : tie.Need-declare-requires-2
 declare-requires-2 c κs = (c .before .before .before .before .before .before .before .pre .1 .1 .1 .1 .0, refl)
@@ -23,7 +23,7 @@ read-kind-requires-2 : tie.Need-read-kind-requires-2
 read-kind-requires-2 c κs =
     let p = c .before .before .before .before .before .before .before .before .before .before .pre .1 .1 in
     let a = c .before .before .before .before .read-kind .ensures .0 (c .before .before .before .before .before .before .before .before .before .before .args .fields) (c .before .before .before .before .before .before .before .declare .ensures) [] (links-none (p .0)) .going in
-    (a .within, (c .before .before .before .before .before .before .before .before .before .before .pre .1 .0, (inr refl, (c .before .before .before .before .read-kind .ensures .1, (record { list = a .list; holds = a .holds }, (p .1 .0, (p .1 .1 .1, (c .before .before .before .before .before .before .before .before .before .before .args .fields, c .before .before .declare2 .ensures))))))))
+    (a .within, (c .before .before .before .before .before .before .before .before .before .before .pre .1 .0, (inr refl, ((c .before .before .before .before .read-kind .ensures .1, record { list = a .list; holds = a .holds }), (p .1 .0, (p .1 .1 .1, (c .before .before .before .before .before .before .before .before .before .before .args .fields, c .before .before .declare2 .ensures)))))))
 
 returns : tie.Need-returns
 returns c =

@@ -1,9 +1,20 @@
--- Of some rows of a fine state fewer are rows of one too: those that are left out are others with which it is fine.
+-- Of some rows of a fine state fewer are rows of one too: those that are left out are others with which it is fine; and each row is long enough
+-- for the counts.
 -- Assumes nothing.
-use Prim.Native.Nat.{ℕ}
+use Prim.Native.Nat.{ℕ, _+_, _*_, _≤_}
 use mathlib.Core.List.{List}
+use lib.ListN.{length}
 use Rattle.live.specs.declared.Counts.{Counts}
 use Rattle.live.specs.Parts.{FineLabels, FineLinks, FineSaved, FineObjects, FineFields, FineFrames, FineCalls}
+use Rattle.live.proofs.Rows.{labels-long, links-long}
+
+module _ {labels : List ℕ} {at : Counts} (w : FineLabels labels at) where
+  pub labels-reach : 32 * at .depth + at .n ≤ length labels
+  labels-reach = labels-long labels (w .links) (w .pool) (w .saved) at (w .fine)
+
+module _ {links : List ℕ} {at : Counts} (w : FineLinks links at) where
+  pub links-reach : at .nlinks ≤ length links
+  links-reach = links-long (w .labels) links (w .pool) (w .saved) at (w .fine)
 
 module _ {labels pool : List ℕ} {at : Counts} (w : FineObjects labels pool at) where
   pub objects-labels : FineLabels labels at

@@ -48,11 +48,12 @@ pub fn saved_number(method: u8, pending: u8, n: usize) -> u32
     (method as u32) * 16777216 + (pending as u32) * 65536 + (n as u32)
 }
 
-// Whether the frame at this depth, of n labels, has r at the label c. All are gone through, so that several are compared at once. (A lent
-// row's length is no part of what its list tells: a fine state's rows are as long as they must be.)
+// Whether the frame at this depth, of n labels, has r at the label c. All are gone through, so that several are compared at once. (That
+// the row is long enough is asked, since the logic does not know that a lent array has the length of its type: a fine state's rows have it.)
 pub fn has_label(labels: &[u16; 544], depth: usize, n: usize, r: u8, c: u8) -> bool
     requires { ⌜ 32 * depth + n ≤ 544 ⌝ }
-    ensures { λ x. ⌜ (32 * depth + n ≤ length (now (labels .entry)) → x ≡ holds (frameView (map labelOf (now (labels .entry))) depth n) r c) ⌝ }
+    requires { ⌜ 32 * depth + n ≤ length (now labels) ⌝ }
+    ensures { λ x. ⌜ x ≡ holds (frameView (map labelOf (now (labels .entry))) depth n) r c ⌝ }
 {
     let base = 32 * depth;
     let l = label_number(r, c);
@@ -68,7 +69,8 @@ pub fn has_label(labels: &[u16; 544], depth: usize, n: usize, r: u8, c: u8) -> b
 // Whether that frame has r at any label.
 pub fn has_ref(labels: &[u16; 544], depth: usize, n: usize, r: u8) -> bool
     requires { ⌜ 32 * depth + n ≤ 544 ⌝ }
-    ensures { λ x. ⌜ (32 * depth + n ≤ length (now (labels .entry)) → x ≡ holdsRef (frameView (map labelOf (now (labels .entry))) depth n) r) ⌝ }
+    requires { ⌜ 32 * depth + n ≤ length (now labels) ⌝ }
+    ensures { λ x. ⌜ x ≡ holdsRef (frameView (map labelOf (now (labels .entry))) depth n) r ⌝ }
 {
     let base = 32 * depth;
     let mut found = false;
@@ -83,7 +85,8 @@ pub fn has_ref(labels: &[u16; 544], depth: usize, n: usize, r: u8) -> bool
 // Whether the first n links have this one.
 pub fn has_link(links: &[u32; 256], n: usize, k: u32) -> bool
     requires { ⌜ n ≤ 256 ⌝ }
-    ensures { λ x. ⌜ (n ≤ length (now (links .entry)) → x ≡ hasLink (linksView (map linkOf (now (links .entry))) n) (linkView (linkOf k))) ⌝ }
+    requires { ⌜ n ≤ length (now links) ⌝ }
+    ensures { λ x. ⌜ x ≡ hasLink (linksView (map linkOf (now (links .entry))) n) (linkView (linkOf k)) ⌝ }
 {
     let mut found = false;
     for i in 0..n {

@@ -104,7 +104,8 @@ fn context_from(x: u32) -> Saved
 }
 
 pub fn labels_from(rows: &[u16; 544]) -> [Label; 544]
-    ensures { λ r. ⌜ (length (now (rows .entry)) ≡ 544 → r ≡ map labelOf (now (rows .entry))) ⌝ }
+    requires { ⌜ length (now rows) ≡ 544 ⌝ }
+    ensures { λ r. ⌜ r ≡ map labelOf (now (rows .entry)) ⌝ }
 {
     let mut r = [Label { r: 0, c: 0 }; 544];
     for i in 0..544 {
@@ -114,7 +115,8 @@ pub fn labels_from(rows: &[u16; 544]) -> [Label; 544]
 }
 
 pub fn links_from(rows: &[u32; 256]) -> [Link; 256]
-    ensures { λ r. ⌜ (length (now (rows .entry)) ≡ 256 → r ≡ map linkOf (now (rows .entry))) ⌝ }
+    requires { ⌜ length (now rows) ≡ 256 ⌝ }
+    ensures { λ r. ⌜ r ≡ map linkOf (now (rows .entry)) ⌝ }
 {
     let mut r = [Link {
         owner: 0,
@@ -129,7 +131,8 @@ pub fn links_from(rows: &[u32; 256]) -> [Link; 256]
 }
 
 pub fn saved_from(rows: &[u32; 16]) -> [Saved; 16]
-    ensures { λ r. ⌜ (length (now (rows .entry)) ≡ 16 → r ≡ map savedOf (now (rows .entry))) ⌝ }
+    requires { ⌜ length (now rows) ≡ 16 ⌝ }
+    ensures { λ r. ⌜ r ≡ map savedOf (now (rows .entry)) ⌝ }
 {
     let mut r = [Saved {
         method: 0,

@@ -79,7 +79,3 @@ read-below rows cs r b h = read-test cs r h (λ c. belowBy rows c b) (λ o. deci
 -- a test's answer, with what it says of every package that has these rows
 pub says : {rows : List ℕ} {x t : Bool} {u : Package → Bool} → ((P : Package) → Supers P rows → t ≡ u P) → x ≡ t → (x ≡ t) × ((P : Package) → Supers P rows → x ≡ u P)
 says law e = (e, λ P w. e ∙ law P w)
-
--- and one that holds where the array that is lent is long enough
-pub says-where : {rows : List ℕ} {H : Type 0} {x t : Bool} {u : Package → Bool} → ((P : Package) → Supers P rows → t ≡ u P) → (H → x ≡ t) → (H → x ≡ t) × ((P : Package) → Supers P rows → H → x ≡ u P)
-says-where law e = (e, λ P w h. e h ∙ law P w)

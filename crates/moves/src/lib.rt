@@ -52,7 +52,7 @@ fn label_below(rows: &[u64; 254], l: u16, r: u8, b: u8) -> bool
 }
 
 // Whether the frame at this depth, of n labels, has r at a subtype of b. (Of a row that is lent the list alone is known, and not that it is
-// as long as its type says: so what is said of it here is said where it is long enough, as a fine state's rows are.)
+// as long as its type says: so that it is long enough is asked, and a fine state's rows are.)
 pub fn has_below(
     rows: &[u64; 254],
     labels: &[u16; 544],
@@ -62,8 +62,9 @@ pub fn has_below(
     b: u8,
 ) -> bool
     requires { ⌜ 32 * depth + n ≤ 544 ⌝ }
-    ensures { λ x. ⌜ (32 * depth + n ≤ length (now (labels .entry)) → x ≡ any (labelBelow (now (rows .entry)) r b) (frameView (map labelOf (now (labels .entry))) depth n)) ⌝ }
-    ensures { λ x. ⌜ ((P : Package) → Supers P (now (rows .entry)) → 32 * depth + n ≤ length (now (labels .entry)) → x ≡ holdsBelow P (frameView (map labelOf (now (labels .entry))) depth n) r b) ⌝ }
+    requires { ⌜ 32 * depth + n ≤ length (now labels) ⌝ }
+    ensures { λ x. ⌜ x ≡ any (labelBelow (now (rows .entry)) r b) (frameView (map labelOf (now (labels .entry))) depth n) ⌝ }
+    ensures { λ x. ⌜ ((P : Package) → Supers P (now (rows .entry)) → x ≡ holdsBelow P (frameView (map labelOf (now (labels .entry))) depth n) r b) ⌝ }
 {
     let base = 32 * depth;
     let mut i = 0;
@@ -78,8 +79,9 @@ pub fn has_below(
 
 // Whether r is the number of an object whose class is a subtype of b.
 pub fn is_a(rows: &[u64; 254], pool: &[u8; 256], r: u8, b: u8) -> bool
-    ensures { λ x. ⌜ (r < length (now (pool .entry)) → x ≡ any (objectBelow (now (rows .entry)) r b) (poolFrom 0 (now (pool .entry)))) ⌝ }
-    ensures { λ x. ⌜ ((P : Package) → Supers P (now (rows .entry)) → r < length (now (pool .entry)) → x ≡ isA P (poolFrom 0 (now (pool .entry))) r b) ⌝ }
+    requires { ⌜ r < length (now pool) ⌝ }
+    ensures { λ x. ⌜ x ≡ any (objectBelow (now (rows .entry)) r b) (poolFrom 0 (now (pool .entry))) ⌝ }
+    ensures { λ x. ⌜ ((P : Package) → Supers P (now (rows .entry)) → x ≡ isA P (poolFrom 0 (now (pool .entry))) r b) ⌝ }
 {
     let c = pool[r as usize];
     if c == 255 {

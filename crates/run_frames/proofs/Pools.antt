@@ -8,8 +8,6 @@ use mathlib.Core.Logic.{_⊎_, inl, inr}
 use mathlib.Core.Bool.{false, _&&_, not}
 use mathlib.Core.List.{List, [], _∷_, _++_, List·Memᴰ·not-nil}
 use lib.Dec.{eqb}
-use mir.Syntax.{w8}
-use mir.Val.{Fits}
 use lib.ListN.{length, getD, set, replicate, List·getD-eq-default}
 use Rattle.meaning.specs.Lists.{In}
 use Rattle.meaning.specs.Tables.{Package}
@@ -26,10 +24,6 @@ use Rattle.moves.specs.Below.{Supers}
 use Rattle.moves.proofs.Subtypes.{object-below}
 use Rattle.run_frames.specs.Judging.{among, isAmong}
 use Rattle.run_frames.specs.Pools.{Has}
-
--- each reference has its place in the array
-pub has-place : (pool : List ℕ) (r : ℕ) → length pool ≡ 256 → Fits w8 r → r < length pool
-has-place pool r e h = omega (arith, h .fits)
 
 module _ {os : List Object} {pool : List ℕ} (h : Has os pool) where
   same-class : (r : ℕ) → classIn (poolFrom 0 pool) r ≡ classIn os r

@@ -5,24 +5,23 @@ use borrow.Author.Needs.{needs}
 use Rattle.state.specs.View.{view}
 use Rattle.state.specs.Fine.{done}
 use Rattle.state.proofs.Added.{join-there, join-full, join-room}
-use Rattle.live.proofs.Rows.{label-stored, labels-long}
+use Rattle.live.proofs.Rows.{label-stored}
+use Rattle.live.proofs.Parts.{labels-reach}
 use Rattle.live.proofs.add_label.Statement.{statement}
 use Rattle.live.proofs.add_label.Tie as tie
 
 has-label-requires : tie.Need-has-label-requires
-has-label-requires c κs = search needs
+has-label-requires c κs = (search needs, labels-reach (c .before .pre))
 
 returns : tie.Need-returns
 unfolding view
 returns c =
-    let a = c .before .before .before .args in
-    λ ks os cs f. join-there f _ _ (sym (c .if1 .taken) ∙ c .before .has-label .ensures (labels-long (a .labels .now) ks os cs (a .at) f))
+    λ ks os cs f. join-there f _ _ (sym (c .if1 .taken) ∙ c .before .has-label .ensures)
 
 returns-2 : tie.Need-returns-2
 unfolding view
 returns-2 c =
-    let a = c .before .before .before .before .args in
-    λ ks os cs f. join-full f _ _ (sym (c .before .if1 .left) ∙ c .before .before .has-label .ensures (labels-long (a .labels .now) ks os cs (a .at) f)) (c .if2 .taken)
+    λ ks os cs f. join-full f _ _ (sym (c .before .if1 .left) ∙ c .before .before .has-label .ensures) (c .if2 .taken)
 
 label-number-requires : tie.Need-label-number-requires
 label-number-requires c κs = search needs
@@ -50,7 +49,7 @@ returns-3 c =
     λ ks os cs f.
     rw (c .before .label-number .ensures)
     (ap done (label-stored (a .labels .now) ks os cs (a .at) (a .r) (a .c) (search needs))
-    ∙ join-room f _ _ (sym (s .before .if1 .left) ∙ s .before .before .has-label .ensures (labels-long (a .labels .now) ks os cs (a .at) f)) (s .if2 .left))
+    ∙ join-room f _ _ (sym (s .before .if1 .left) ∙ s .before .before .has-label .ensures) (s .if2 .left))
 
 pub add-label-spec : {M : Type 1} → statement M
 add-label-spec =

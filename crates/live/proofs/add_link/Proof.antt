@@ -5,24 +5,23 @@ use borrow.Author.Needs.{needs}
 use Rattle.state.specs.View.{view}
 use Rattle.state.specs.Fine.{done}
 use Rattle.state.proofs.Added.{link-there, link-full, link-room}
-use Rattle.live.proofs.Rows.{link-stored, links-long}
+use Rattle.live.proofs.Rows.{link-stored}
+use Rattle.live.proofs.Parts.{links-reach}
 use Rattle.live.proofs.add_link.Statement.{statement}
 use Rattle.live.proofs.add_link.Tie as tie
 
 has-link-requires : tie.Need-has-link-requires
-has-link-requires c κs = search needs
+has-link-requires c κs = (search needs, links-reach (c .before .pre))
 
 returns : tie.Need-returns
 unfolding view
 returns c =
-    let a = c .before .before .before .args in
-    λ ls os cs f. link-there f _ (sym (c .if1 .taken) ∙ c .before .has-link .ensures (links-long ls (a .links .now) os cs (a .at) f))
+    λ ls os cs f. link-there f _ (sym (c .if1 .taken) ∙ c .before .has-link .ensures)
 
 returns-2 : tie.Need-returns-2
 unfolding view
 returns-2 c =
-    let a = c .before .before .before .before .args in
-    λ ls os cs f. link-full f _ (sym (c .before .if1 .left) ∙ c .before .before .has-link .ensures (links-long ls (a .links .now) os cs (a .at) f)) (c .if2 .taken)
+    λ ls os cs f. link-full f _ (sym (c .before .if1 .left) ∙ c .before .before .has-link .ensures) (c .if2 .taken)
 
 mul-links : tie.Need-mul-links
 mul-links c = search needs
@@ -39,7 +38,7 @@ returns-3 c =
     let a = c .before .before .before .before .args in
     λ ls os cs f.
     ap done (link-stored ls (a .links .now) os cs (a .at) (a .k))
-    ∙ link-room f _ (sym (c .before .if1 .left) ∙ c .before .before .has-link .ensures (links-long ls (a .links .now) os cs (a .at) f)) (c .if2 .left)
+    ∙ link-room f _ (sym (c .before .if1 .left) ∙ c .before .before .has-link .ensures) (c .if2 .left)
 
 pub add-link-spec : {M : Type 1} → statement M
 add-link-spec =

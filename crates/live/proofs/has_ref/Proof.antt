@@ -6,7 +6,6 @@ use mathlib.Core.Path.{_≡_}
 use mathlib.Core.List.{map}
 use borrow.Author.Needs.{needs}
 use borrow.Author.Tests.{eq-eqb, ne-eqb}
-use lib.ListN.{length}
 use Rattle.runs.specs.Steps.{isOf, holdsRef}
 use Rattle.state.specs.View.{labelView, frameView}
 use Rattle.permits.proofs.Noted.{Noted, noted-none}
@@ -16,7 +15,7 @@ use Rattle.live.proofs.has_ref.Statement.{statement}
 use Rattle.live.proofs.has_ref.Tie as tie
 
 abbrev Inv-loop : tie.InvT-loop
-Inv-loop labels depth n r base found₀ i₀ found i = (i ≤ n) × ((32 * depth + n ≤ length labels) → Noted (isOf r) (frameView (map labelOf labels) depth n) found i)
+Inv-loop labels depth n r base found₀ i₀ found i = (i ≤ n) × Noted (isOf r) (frameView (map labelOf labels) depth n) found i
 
 abbrev μ-loop : tie.MeasureT-loop
 μ-loop labels depth n r base found₀ i₀ found i = n - i
@@ -25,7 +24,7 @@ mul-base : tie.Need-mul-base Inv-loop μ-loop
 mul-base c = search needs
 
 loop-holds : tie.Need-loop-holds Inv-loop μ-loop
-loop-holds c = (search needs, λ h. noted-none _ _)
+loop-holds c = (search needs, noted-none _ _)
 
 add-if1 : tie.Need-add-if1 Inv-loop μ-loop
 add-if1 c = search needs
@@ -46,20 +45,20 @@ loop-again : tie.Need-loop-again Inv-loop μ-loop
 unfolding isOf frameView
 loop-again c =
     let s = c .before .before .before in
-    let a = s .before .args in (
+    let a = s .before .args in
+    let h = s .before .pre .1 in (
       search needs,
-      λ h. ⊎-elim
-          (λ w. rw (w .1) (row-here labelOf labelView (a .labels .now) _ _ h (isOf (a .r)) _ (s .loop .i) (s .loop .inv .1 h) (search needs) (eq-eqb _ _ (w .0 .taken))))
-          (λ w. rw (w .1) (row-not labelOf labelView (a .labels .now) _ _ h (isOf (a .r)) _ (s .loop .i) (s .loop .inv .1 h) (search needs) (ne-eqb _ _ (w .0 .left))))
+      ⊎-elim
+          (λ w. rw (w .1) (row-here labelOf labelView (a .labels .now) _ _ h (isOf (a .r)) _ (s .loop .i) (s .loop .inv .1) (search needs) (eq-eqb _ _ (w .0 .taken))))
+          (λ w. rw (w .1) (row-not labelOf labelView (a .labels .now) _ _ h (isOf (a .r)) _ (s .loop .i) (s .loop .inv .1) (search needs) (ne-eqb _ _ (w .0 .left))))
           (c .if1 .came),
     )
 
 returns : tie.Need-returns Inv-loop μ-loop
 unfolding holdsRef frameView
 returns c =
-    λ h.
     let s = c .before in
-    row-all labelOf labelView (s .before .args .labels .now) _ _ h _ _ (s .loop .i) (s .loop .inv .1 h) (search needs)
+    row-all labelOf labelView (s .before .args .labels .now) _ _ (s .before .pre .1) _ _ (s .loop .i) (s .loop .inv .1) (search needs)
 
 pub has-ref-spec : {M : Type 1} → statement M
 has-ref-spec =

@@ -2,21 +2,18 @@
 use borrow.Author.Needs.{needs}
 use Rattle.state.specs.View.{view}
 use Rattle.state.proofs.Premises.{missing, held}
-use Rattle.live.proofs.Rows.{links-long}
-use Rattle.live.proofs.Parts.{fields-labels}
+use Rattle.live.proofs.Parts.{links-reach, fields-labels, fields-links}
 use Rattle.moves.specs.Linked.{readBy}
 use Rattle.moves.proofs.read.Statement.{statement}
 use Rattle.moves.proofs.read.Tie as tie
 
 has-link-requires : tie.Need-has-link-requires
-has-link-requires c κs = search needs
+has-link-requires c κs = (search needs, links-reach (fields-links (c .pre)))
 
 returns : tie.Need-returns
 unfolding readBy view
 returns c = λ os cs f.
-    let a = c .before .before .args in
-    let h = links-long (a .labels .now) (a .links .now) os cs (a .at) f in
-    rw (missing (c .before .has-link .ensures h) (c .if1 .taken))
+    rw (missing (c .before .has-link .ensures) (c .if1 .taken))
 
 cast-add-label : tie.Need-cast-add-label
 cast-add-label c = search needs
@@ -31,8 +28,7 @@ returns-2 : tie.Need-returns-2
 unfolding readBy view
 returns-2 c = λ os cs f.
     let a = c .before .before .before .before .args in
-    let h = links-long (a .labels .now) (a .links .now) os cs (a .at) f in
-    rw (held (c .before .before .before .has-link .ensures h) (c .before .before .if1 .left)) (c .add-label .ensures (a .links .now) os cs f)
+    rw (held (c .before .before .before .has-link .ensures) (c .before .before .if1 .left)) (c .add-label .ensures (a .links .now) os cs f)
 
 pub read-spec : {M : Type 1} → statement M
 read-spec =

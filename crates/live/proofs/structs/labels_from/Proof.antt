@@ -46,7 +46,7 @@ loop-again c =
 returns : tie.Need-returns Inv-loop μ-loop
 returns c =
     let s = c .before in
-    λ h. sym (copied-all labelOf (s .before .args .rows .now) (s .loop .r) (s .loop .i) (s .loop .inv .1 .1) (search needs) (h ∙ sym (s .loop .inv .1 .0)))
+    sym (copied-all labelOf (s .before .args .rows .now) (s .loop .r) (s .loop .i) (s .loop .inv .1 .1) (search needs) (s .before .pre ∙ sym (s .loop .inv .1 .0)))
 
 pub labels-from-spec : {M : Type 1} → statement M
 labels-from-spec =

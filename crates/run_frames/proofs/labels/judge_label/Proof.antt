@@ -3,7 +3,6 @@
 use mathlib.Core.Path.{_∙_}
 use Rattle.run_frames.specs.Judging.{judgeLabel}
 use borrow.Author.Needs.{needs}
-use Rattle.run_frames.proofs.Pools.{has-place}
 use Rattle.run_frames.proofs.labels.judge_label.Statement.{statement}
 use Rattle.run_frames.proofs.labels.judge_label.Tie as tie
 
@@ -34,10 +33,8 @@ judge-requires c κs = search needs
 returns : tie.Need-returns
 unfolding judgeLabel
 returns c =
-    let s = c .before .before .before .before .before .before .before .before in
     let r = c .before .before .before .before .before .before .byte in
-    let h = has-place (s .args .pool .now) (r .result) (s .pre) (search needs) in
-    c .judge .ensures ∙ rw (c .before .fits-as .ensures, c .before .before .is-a .ensures .0 h, c .before .before .before .below .ensures, c .before .before .before .before .in-pool .ensures, r .ensures)
+    c .judge .ensures ∙ rw (c .before .fits-as .ensures, c .before .before .is-a .ensures .0, c .before .before .before .below .ensures, c .before .before .before .before .in-pool .ensures, r .ensures)
 
 pub judge-label-spec : {M : Type 1} → statement M
 judge-label-spec =

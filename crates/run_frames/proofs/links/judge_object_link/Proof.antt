@@ -7,7 +7,6 @@ use Prim.Native.Nat.{ℕ}
 use Rattle.frames.specs.Judging.{below}
 use Rattle.run_frames.specs.Judging.{among, fieldAmong, judgeObjectLink}
 use borrow.Author.Needs.{needs}
-use Rattle.run_frames.proofs.Pools.{has-place}
 use Rattle.run_frames.proofs.Declaring.{declared-is}
 use Rattle.run_frames.proofs.links.judge_object_link.Statement.{statement}
 use Rattle.run_frames.proofs.links.judge_object_link.Tie as tie
@@ -64,10 +63,8 @@ returns c = λ fields d.
     let x : ℕ → ℕ = λ i. getD (a .b .now) i 0 in
     let p = c .before .before .before .before .before .before .before .before .before .before .before .byte in
     let q = c .before .before .before .before .before .before .before .byte2 in
-    let hp = has-place (a .pool .now) (p .result) (s .pre .1 .0) (search needs) in
-    let hq = has-place (a .pool .now) (q .result) (s .pre .1 .0) (search needs) in
     c .judge .ensures
-    ∙ rw (c .before .fits-as .ensures, c .before .before .is-a2 .ensures .0 hp, c .before .before .before .is-a .ensures .0 hq, c .before .before .before .before .in-pool2 .ensures, c .before .before .before .before .before .is-declared .ensures, declared-is 0 fields d (a .nc) (x 2) (x 3) (s .pre .0), c .before .before .before .before .before .before .in-pool .ensures, p .ensures, q .ensures, in-a-row (among (a .pool .now) (x 1)) (below (a .nc) (x 2)) (below (a .nc) (x 3)) (fieldAmong fields (x 2) (x 3) 0))
+    ∙ rw (c .before .fits-as .ensures, c .before .before .is-a2 .ensures .0, c .before .before .before .is-a .ensures .0, c .before .before .before .before .in-pool2 .ensures, c .before .before .before .before .before .is-declared .ensures, declared-is 0 fields d (a .nc) (x 2) (x 3) (s .pre .0), c .before .before .before .before .before .before .in-pool .ensures, p .ensures, q .ensures, in-a-row (among (a .pool .now) (x 1)) (below (a .nc) (x 2)) (below (a .nc) (x 3)) (fieldAmong fields (x 2) (x 3) 0))
 
 pub judge-object-link-spec : {M : Type 1} → statement M
 judge-object-link-spec =

@@ -4,7 +4,6 @@ use mathlib.Core.Path.{_∙_}
 use lib.ListN.{getD}
 use Rattle.run_frames.specs.Judging.{judgeStaticLink}
 use borrow.Author.Needs.{needs}
-use Rattle.run_frames.proofs.Pools.{has-place}
 use Rattle.run_frames.proofs.Declaring.{declared-is}
 use Rattle.run_frames.proofs.links.judge_static_link.Statement.{statement}
 use Rattle.run_frames.proofs.links.judge_static_link.Tie as tie
@@ -42,9 +41,8 @@ returns c = λ fields d.
     let s = c .before .before .before .before .before .before .before .before .before in
     let a = s .args in
     let q = c .before .before .before .before .before .byte in
-    let h = has-place (a .pool .now) (q .result) (s .pre .1 .0) (search needs) in
     c .judge .ensures
-    ∙ rw (c .before .fits-as .ensures, c .before .before .is-a .ensures .0 h, c .before .before .before .in-pool .ensures, c .before .before .before .before .is-declared .ensures, declared-is 1 fields d (a .nc) (getD (a .b .now) 1 0) (getD (a .b .now) 2 0) (s .pre .0), q .ensures)
+    ∙ rw (c .before .fits-as .ensures, c .before .before .is-a .ensures .0, c .before .before .before .in-pool .ensures, c .before .before .before .before .is-declared .ensures, declared-is 1 fields d (a .nc) (getD (a .b .now) 1 0) (getD (a .b .now) 2 0) (s .pre .0), q .ensures)
 
 pub judge-static-link-spec : {M : Type 1} → statement M
 judge-static-link-spec =

@@ -40,7 +40,8 @@ fn holds_all(
     requires { ⌜ 32 * depth + n ≤ 544 ⌝ }
     requires { ⌜ at ≤ 4 ⌝ }
     requires { ⌜ called .k ≤ 6 ⌝ }
-    ensures { λ x. ⌜ (32 * depth + n ≤ length (now (labels .entry)) → x ≡ holdsAll (frameView (map labelOf (now (labels .entry))) depth n) (argumentsAt (k .b) at) (paramsIn called)) ⌝ }
+    requires { ⌜ 32 * depth + n ≤ length (now labels) ⌝ }
+    ensures { λ x. ⌜ x ≡ holdsAll (frameView (map labelOf (now (labels .entry))) depth n) (argumentsAt (k .b) at) (paramsIn called) ⌝ }
 {
     if k.b[at] != called.k {
         return false;
@@ -251,7 +252,8 @@ pub fn invokemethod(
 // The labels of a frame are given up.
 fn clear(labels: &mut [u16; 544], depth: usize, n: usize)
     requires { ⌜ 32 * depth + n ≤ 544 ⌝ }
-    ensures { λ _. ⌜ (32 * depth + n ≤ length (now (labels .entry)) → map labelOf (now (labels .exit)) ≡ cleared (map labelOf (now (labels .entry))) (32 * depth) n) ⌝ }
+    requires { ⌜ 32 * depth + n ≤ length (now labels) ⌝ }
+    ensures { λ _. ⌜ map labelOf (now (labels .exit)) ≡ cleared (map labelOf (now (labels .entry))) (32 * depth) n ⌝ }
 {
     let base = 32 * depth;
     for i in 0..n {
@@ -287,7 +289,8 @@ fn pop(labels: &mut [u16; 544], saved: &mut [u32; 16], at: Counts) -> Counts
 // Whether a frame has room for r labelled c: it is there, or fewer than 32 labels are.
 fn has_room(labels: &[u16; 544], depth: usize, n: usize, r: u8, c: u8) -> bool
     requires { ⌜ 32 * depth + n ≤ 544 ⌝ }
-    ensures { λ x. ⌜ (32 * depth + n ≤ length (now (labels .entry)) → x ≡ roomFor sameLabel 32 (label r c) (frameView (map labelOf (now (labels .entry))) depth n)) ⌝ }
+    requires { ⌜ 32 * depth + n ≤ length (now labels) ⌝ }
+    ensures { λ x. ⌜ x ≡ roomFor sameLabel 32 (label r c) (frameView (map labelOf (now (labels .entry))) depth n) ⌝ }
 {
     if n < 32 {
         return true;

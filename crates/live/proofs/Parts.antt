@@ -28,9 +28,15 @@ module _ {labels links : List ℕ} {at : Counts} (w : FineFields labels links at
   fields-links = record { labels = labels; pool = w .pool; saved = w .saved; fine = w .fine }
 
 module _ {labels saved : List ℕ} {at : Counts} (w : FineFrames labels saved at) where
+  pub frames-labels : FineLabels labels at
+  frames-labels = record { links = w .links; pool = w .pool; saved = saved; fine = w .fine }
+
   pub frames-saved : FineSaved saved at
   frames-saved = record { labels = labels; links = w .links; pool = w .pool; fine = w .fine }
 
 module _ {labels pool saved : List ℕ} {at : Counts} (w : FineCalls labels pool saved at) where
   pub calls-frames : FineFrames labels saved at
   calls-frames = record { links = w .links; pool = pool; fine = w .fine }
+
+  pub calls-objects : FineObjects labels pool at
+  calls-objects = record { links = w .links; saved = saved; fine = w .fine }

@@ -52,7 +52,7 @@ fn label_below(rows: &[u64; 254], l: u16, r: u8, b: u8) -> bool
 }
 
 // Whether the frame at this depth, of n labels, has r at a subtype of b. (Of a row that is lent the list alone is known, and not that it is
-// as long as its type says: so that it is long enough is asked, and a fine state's rows are.)
+// as long as its type says: that it is long enough is asked, and a fine state's rows are.)
 pub fn has_below(
     rows: &[u64; 254],
     labels: &[u16; 544],

@@ -4,7 +4,7 @@ use Prim.Native.Nat.{ℕ, _+_, _*_, _-_, _≤_}
 use native.Mathlib.Nat.{le-antisymm}
 use mathlib.Core.Path.{_≡_, ap, _∙_}
 use mathlib.Core.List.{map}
-use lib.ListN.{length, replicate, length-map}
+use lib.ListN.{replicate, length-map}
 use lib.Seq.{paste, paste-zero}
 use Rattle.state.specs.View.{noLabel}
 use Rattle.live.specs.Live.{labelOf}
@@ -15,7 +15,7 @@ use Rattle.calls.proofs.clear.Statement.{statement}
 use Rattle.calls.proofs.clear.Tie as tie
 
 abbrev Inv-loop : tie.InvT-loop
-Inv-loop labels₀ depth n base i₀ labels i = (i ≤ n) × ((32 * depth + n ≤ length labels₀) → map labelOf labels ≡ paste (map labelOf labels₀) base (replicate n noLabel) i)
+Inv-loop labels₀ depth n base i₀ labels i = (i ≤ n) × (map labelOf labels ≡ paste (map labelOf labels₀) base (replicate n noLabel) i)
 
 abbrev μ-loop : tie.MeasureT-loop
 μ-loop labels₀ depth n base i₀ labels i = n - i
@@ -24,7 +24,7 @@ mul-base : tie.Need-mul-base Inv-loop μ-loop
 mul-base c = search needs
 
 loop-holds : tie.Need-loop-holds Inv-loop μ-loop
-loop-holds c = let a = c .args in (search needs, λ h. paste-zero (map labelOf (a .labels .now)) (32 * a .depth) (replicate (a .n) noLabel))
+loop-holds c = let a = c .args in (search needs, paste-zero (map labelOf (a .labels .now)) (32 * a .depth) (replicate (a .n) noLabel))
 
 add-labels : tie.Need-add-labels Inv-loop μ-loop
 add-labels c = search needs
@@ -45,10 +45,10 @@ loop-again : tie.Need-loop-again Inv-loop μ-loop
 loop-again c =
     let s = c .before in
     let a = c .before .before .args in
-    (search needs, λ h. map-set labelOf (s .loop .labels) (32 * a .depth + s .loop .i) 0 ∙ cleared-more noLabel (map labelOf (a .labels .now)) (32 * a .depth) (a .n) (s .loop .i) _ (rw (length-map (a .labels .now) labelOf) h) (c .loop-test .taken) (s .loop .inv .1 h))
+    (search needs, map-set labelOf (s .loop .labels) (32 * a .depth + s .loop .i) 0 ∙ cleared-more noLabel (map labelOf (a .labels .now)) (32 * a .depth) (a .n) (s .loop .i) _ (rw (length-map (a .labels .now) labelOf) (s .before .pre .1)) (c .loop-test .taken) (s .loop .inv .1))
 
 returns : tie.Need-returns Inv-loop μ-loop
-returns c = λ h. let s = c .before in let a = c .before .before .args in s .loop .inv .1 h ∙ ap (λ (j : ℕ). paste (map labelOf (a .labels .now)) (32 * a .depth) (replicate (a .n) noLabel) j) (le-antisymm (s .loop .inv .0) (c .loop-test .left))
+returns c = let s = c .before in let a = c .before .before .args in s .loop .inv .1 ∙ ap (λ (j : ℕ). paste (map labelOf (a .labels .now)) (32 * a .depth) (replicate (a .n) noLabel) j) (le-antisymm (s .loop .inv .0) (c .loop-test .left))
 
 pub clear-spec : {M : Type 1} → statement M
 clear-spec =

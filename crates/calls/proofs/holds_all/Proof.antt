@@ -1,9 +1,8 @@
 -- `calls::holds_all` meets its contract. The loop's invariant: all are held exactly where those from i on are.
 -- Assumes nothing.
-use Prim.Native.Nat.{_+_, _*_, _-_, _≤_}
+use Prim.Native.Nat.{_-_, _≤_}
 use native.Mathlib.Omega.{arith}
 use mathlib.Core.List.{map}
-use lib.ListN.{length}
 use Rattle.state.specs.View.{frameView}
 use Rattle.live.specs.Live.{labelOf}
 use Rattle.state.proofs.Premises.{missing, held}
@@ -13,25 +12,25 @@ use Rattle.calls.proofs.holds_all.Statement.{statement}
 use Rattle.calls.proofs.holds_all.Tie as tie
 
 abbrev Inv-loop : tie.InvT-loop
-Inv-loop labels depth n at k called count i₀ i = (i ≤ count) × ((32 * depth + n ≤ length labels) → Held (frameView (map labelOf labels) depth n) (k .b) at called i)
+Inv-loop labels depth n at k called count i₀ i = (i ≤ count) × Held (frameView (map labelOf labels) depth n) (k .b) at called i
 
 abbrev μ-loop : tie.MeasureT-loop
 μ-loop labels depth n at k called count i₀ i = count - i
 
 asked : (c : tie.Start Inv-loop μ-loop) → Asked (c .args .t4 .b) (c .args .at) (c .args .t6)
-asked c = record { long = search needs; params = search needs; place = c .pre .1 .0; few = c .pre .1 .1 }
+asked c = record { long = search needs; params = search needs; place = c .pre .1 .0; few = c .pre .1 .1 .0 }
 
 element-copy-out-if1 : tie.Need-element-copy-out-if1 Inv-loop μ-loop
 element-copy-out-if1 c = search needs
 
 returns : tie.Need-returns Inv-loop μ-loop
-returns c = λ h. miscounted (asked (c .before .before)) _ (c .if1 .taken)
+returns c = miscounted (asked (c .before .before)) _ (c .if1 .taken)
 
 wide-requires : tie.Need-wide-requires Inv-loop μ-loop
 wide-requires c κs = search needs
 
 loop-holds : tie.Need-loop-holds Inv-loop μ-loop
-loop-holds c = (search needs, λ h. held-none _ _ _ _)
+loop-holds c = (search needs, held-none _ _ _ _)
 
 add-r : tie.Need-add-r Inv-loop μ-loop
 add-r c = search needs
@@ -49,9 +48,9 @@ has-label-requires : tie.Need-has-label-requires Inv-loop μ-loop
 has-label-requires c κs = search needs
 
 returns-2 : tie.Need-returns-2 Inv-loop μ-loop
-returns-2 c = λ h.
+returns-2 c =
     let s = c .before .before .before .before .before in
-    held-not _ _ _ _ (asked (c .before .before .before .before .before .before .before .before .before)) (c .before .before .before .before .before .before .before .if1 .left) (s .loop .i) (s .loop .inv .1 h) (omega (arith, c .before .before .before .before .loop-test .taken, c .before .before .before .before .before .before .wide .ensures)) (missing (c .before .has-label .ensures h) (c .if2 .taken))
+    held-not _ _ _ _ (asked (c .before .before .before .before .before .before .before .before .before)) (c .before .before .before .before .before .before .before .if1 .left) (s .loop .i) (s .loop .inv .1) (omega (arith, c .before .before .before .before .loop-test .taken, c .before .before .before .before .before .before .wide .ensures)) (missing (c .before .has-label .ensures) (c .if2 .taken))
 
 add-i : tie.Need-add-i Inv-loop μ-loop
 add-i c = search needs
@@ -62,10 +61,10 @@ loop-less c = search needs
 loop-again : tie.Need-loop-again Inv-loop μ-loop
 loop-again c =
     let s = c .before .before .before .before .before in
-    (search needs, λ h. held-more _ _ _ _ (asked (c .before .before .before .before .before .before .before .before .before)) (c .before .before .before .before .before .before .before .if1 .left) (s .loop .i) (s .loop .inv .1 h) (omega (arith, c .before .before .before .before .loop-test .taken, c .before .before .before .before .before .before .wide .ensures)) (held (c .before .has-label .ensures h) (c .if2 .left)))
+    (search needs, held-more _ _ _ _ (asked (c .before .before .before .before .before .before .before .before .before)) (c .before .before .before .before .before .before .before .if1 .left) (s .loop .i) (s .loop .inv .1) (omega (arith, c .before .before .before .before .loop-test .taken, c .before .before .before .before .before .before .wide .ensures)) (held (c .before .has-label .ensures) (c .if2 .left)))
 
 returns-3 : tie.Need-returns-3 Inv-loop μ-loop
-returns-3 c = λ h. let s = c .before in held-all _ _ _ _ (asked (c .before .before .before .before .before)) (c .before .before .before .if1 .left) (s .loop .i) (s .loop .inv .1 h) (omega (arith, c .loop-test .left, c .before .before .wide .ensures))
+returns-3 c = let s = c .before in held-all _ _ _ _ (asked (c .before .before .before .before .before)) (c .before .before .before .if1 .left) (s .loop .i) (s .loop .inv .1) (omega (arith, c .loop-test .left, c .before .before .wide .ensures))
 
 pub holds-all-spec : {M : Type 1} → statement M
 holds-all-spec =

@@ -1,6 +1,6 @@
 -- `calls::pop` meets its contract: the frame's labels and its context are cleared. Assumes nothing.
 use mathlib.Core.Path.{_∙_}
-use Rattle.live.proofs.Rows.{labels-long}
+use Rattle.live.proofs.Parts.{labels-reach, frames-labels}
 use Rattle.calls.proofs.Stacked.{popped}
 use Rattle.calls.proofs.Stored.{frame-cleared}
 use borrow.Author.Needs.{needs}
@@ -8,7 +8,7 @@ use Rattle.calls.proofs.pop.Statement.{statement}
 use Rattle.calls.proofs.pop.Tie as tie
 
 clear-requires : tie.Need-clear-requires
-clear-requires c κs = search needs
+clear-requires c κs = (search needs, labels-reach (frames-labels (c .before .pre .0)))
 
 sub-d : tie.Need-sub-d
 sub-d c = search needs
@@ -32,7 +32,7 @@ saved-method-requires : tie.Need-saved-method-requires
 saved-method-requires c κs = search needs
 
 returns : tie.Need-returns
-returns c = λ ks os f. let a = c .before .before .before .before .before .args in frame-cleared (a .labels .now) ks os (a .saved .now) (a .at) (c .before .before .before .clear .last .0) _ (c .before .before .before .clear .ensures (labels-long (a .labels .now) ks os (a .saved .now) (a .at) f)) (c .saved-method .ensures) ∙ popped f (c .before .before .before .before .before .pre .1)
+returns c = λ ks os f. let a = c .before .before .before .before .before .args in frame-cleared (a .labels .now) ks os (a .saved .now) (a .at) (c .before .before .before .clear .last .0) _ (c .before .before .before .clear .ensures) (c .saved-method .ensures) ∙ popped f (c .before .before .before .before .before .pre .1)
 
 pub pop-spec : {M : Type 1} → statement M
 pop-spec =

@@ -1,6 +1,6 @@
 -- `live::has_label` meets its contract. The loop's invariant: the frame has the label exactly where it is noted, or is in what is left.
 -- Assumes nothing.
-use Prim.Native.Nat.{_+_, _*_, _-_, _≤_}
+use Prim.Native.Nat.{_-_, _≤_}
 use mathlib.Core.Logic.{⊎-elim}
 use mathlib.Core.Path.{sym, _∙_}
 use mathlib.Core.List.{map}
@@ -10,7 +10,7 @@ use Rattle.runs.specs.Machine.{label, sameLabel}
 use Rattle.runs.specs.Steps.{holds}
 use Rattle.state.specs.View.{labelView, frameView}
 use Rattle.permits.proofs.Noted.{Noted, noted-none}
-use Rattle.live.specs.Live.{labelOf, labelNumber}
+use Rattle.live.specs.Live.{labelOf}
 use Rattle.live.proofs.Rows.{label-same, row-here, row-not, row-all}
 use Rattle.live.proofs.has_label.Statement.{statement}
 use Rattle.live.proofs.has_label.Tie as tie

@@ -1,7 +1,6 @@
 -- `moves::has_below` meets its contract. The loop's invariant: the frame has r at a subtype exactly where what is left of it has.
 -- Assumes nothing.
 use Prim.Native.Nat.{ℕ, _+_, _*_, _-_, _≤_}
-use native.Mathlib.Omega.{arith}
 use mathlib.Core.Path.{_≡_, sym, ap, _∙_}
 use mathlib.Core.List.{map}
 use lib.ListN.{length, getD, length-map, List·getD-map}

@@ -17,9 +17,7 @@ labels-from-requires c κs = search needs
 
 returns : tie.Need-returns
 unfolding pack packContexts pad
-returns c =
-    let p = c .before .before .before .pre in
-    rw (c .before .before .empty .ensures, c .before .links-from .ensures (p .0), c .labels-from .ensures (p .1))
+returns c = rw (c .before .before .empty .ensures, c .before .links-from .ensures, c .labels-from .ensures)
 
 pub started-spec : {M : Type 1} → statement M
 started-spec = tie.close (tie.spec empty-requires links-from-requires labels-from-requires returns)

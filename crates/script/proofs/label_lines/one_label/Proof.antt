@@ -1,9 +1,7 @@
 -- `one_label` counts the line, and stores the label's number where the label is not there yet.
 -- Assumes nothing.
-use Prim.Native.Nat.{_+_, _*_, _≤_}
-use native.Mathlib.Omega.{arith}
 use mathlib.Core.Path.{_≡_, sym, ap, _∙_}
-use lib.ListN.{length, length-set}
+use lib.ListN.{length-set}
 use Rattle.live.specs.Live.{labelOf}
 use Rattle.live.proofs.Rows.{label-of, map-set}
 use Rattle.script.specs.Lists.{oneLabel}
@@ -17,13 +15,9 @@ add-lines c = search needs
 has-label-requires : tie.Need-has-label-requires
 has-label-requires c κs = search needs
 
--- the row is long enough for its labels
-long : (c : tie.After-has-label) → 32 * 0 + c .before .before .before .args .x .n ≤ length (c .before .before .before .args .labels .now)
-long c = omega (arith, c .before .before .before .pre .0, c .before .before .before .pre .1 .0, c .before .before .before .pre .1 .1)
-
 returns : tie.Need-returns
 unfolding oneLabel
-returns c = (rw (sym (c .before .has-label .ensures (long (c .before))) ∙ c .if1 .taken), c .before .before .before .before .pre .0)
+returns c = (rw (sym (c .before .has-label .ensures) ∙ c .if1 .taken), c .before .before .before .before .pre .0)
 
 label-number-requires : tie.Need-label-number-requires
 label-number-requires c κs = search needs
@@ -42,7 +36,7 @@ unfolding oneLabel
 returns-2 c =
     let a = c .before .before .before .before .before .args in
     let e : labelOf (c .label-number .result) ≡ a .l = ap labelOf (c .label-number .ensures) ∙ label-of (a .l .r) (a .l .c) (search needs) in
-    (rw (sym (c .before .before .has-label .ensures (long (c .before .before))) ∙ c .before .if1 .left, map-set labelOf (a .labels .now) (a .x .n) (c .label-number .result), e), length-set (a .labels .now) (a .x .n) (c .label-number .result) ∙ c .before .before .before .before .before .pre .0)
+    (rw (sym (c .before .before .has-label .ensures) ∙ c .before .if1 .left, map-set labelOf (a .labels .now) (a .x .n) (c .label-number .result), e), length-set (a .labels .now) (a .x .n) (c .label-number .result) ∙ c .before .before .before .before .before .pre .0)
 
 pub one-label-spec : {M : Type 1} → statement M
 one-label-spec =

@@ -1,9 +1,7 @@
 -- `one_link` counts the line, and stores the link's number where the link is not there yet.
 -- Assumes nothing.
-use Prim.Native.Nat.{_≤_}
-use native.Mathlib.Omega.{arith}
 use mathlib.Core.Path.{sym, _∙_}
-use lib.ListN.{length, length-set}
+use lib.ListN.{length-set}
 use Rattle.live.specs.Live.{linkOf}
 use Rattle.live.proofs.Rows.{map-set}
 use Rattle.script.specs.Lists.{oneLink}
@@ -17,13 +15,9 @@ add-lines c = search needs
 has-link-requires : tie.Need-has-link-requires
 has-link-requires c κs = search needs
 
--- the row is long enough for its links
-long : (c : tie.After-has-link) → c .before .before .before .args .x .n ≤ length (c .before .before .before .args .links .now)
-long c = omega (arith, c .before .before .before .pre .0, c .before .before .before .pre .1 .0, c .before .before .before .pre .1 .1)
-
 returns : tie.Need-returns
 unfolding oneLink
-returns c = (rw (sym (c .before .has-link .ensures (long (c .before))) ∙ c .if1 .taken), c .before .before .before .before .pre .0)
+returns c = (rw (sym (c .before .has-link .ensures) ∙ c .if1 .taken), c .before .before .before .before .pre .0)
 
 mul-links : tie.Need-mul-links
 mul-links c = search needs
@@ -37,7 +31,7 @@ add-t8 c = search needs
 returns-2 : tie.Need-returns-2
 unfolding oneLink
 returns-2 c =
-    (rw (sym (c .before .has-link .ensures (long (c .before))) ∙ c .if1 .left, map-set linkOf (c .before .before .before .before .args .links .now) (c .before .before .before .before .args .x .n) (c .before .before .before .before .args .k)), length-set (c .before .before .before .before .args .links .now) (c .before .before .before .before .args .x .n) (c .before .before .before .before .args .k) ∙ c .before .before .before .before .pre .0)
+    (rw (sym (c .before .has-link .ensures) ∙ c .if1 .left, map-set linkOf (c .before .before .before .before .args .links .now) (c .before .before .before .before .args .x .n) (c .before .before .before .before .args .k)), length-set (c .before .before .before .before .args .links .now) (c .before .before .before .before .args .x .n) (c .before .before .before .before .args .k) ∙ c .before .before .before .before .pre .0)
 
 pub one-link-spec : {M : Type 1} → statement M
 one-link-spec =

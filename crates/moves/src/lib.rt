@@ -154,6 +154,7 @@ pub fn checkcast(
 
 // The number of a field's link: it carries the declaring class and the type.
 fn link_of(pairs: &[u16; 256], owner: u8, f: u8, target: u8) -> u32
+    requires { ⌜ ((P : Package) × Pairs P (now pairs)) ⌝ }
     ensures { λ k. ⌜ ((P : Package) → Pairs P (now (pairs .entry)) → linkView (linkOf k) ≡ fieldLink P f owner target) ⌝ }
 {
     live::link_number(

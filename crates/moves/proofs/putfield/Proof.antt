@@ -17,7 +17,7 @@ unfolding step view
 returns c = λ P p x w os cs f. rw (missing (c .before .permitted-field .ensures P p x) (c .if1 .taken))
 
 link-of-requires : tie.Need-link-of-requires
-link-of-requires c κs = search needs
+link-of-requires c κs = let p = c .before .before .pre .1 in (p .0, p .1 .0)
 
 cast-has-below : tie.Need-cast-has-below
 cast-has-below c = search needs

@@ -156,6 +156,7 @@ pub fn write_holdings(
 ) -> usize
     requires { ⌜ Fine s ⌝ }
     requires { ⌜ 7200 ≤ length (now out) ⌝ }
+    requires { ⌜ ((P : Package) × Looked P (now owners) (now homes)) ⌝ }
     ensures { λ r. ⌜ ((P : Package) → Looked P (now (owners .entry)) (now (homes .entry)) → Put (holdingsText P (view s)) (now (out .entry)) r (now (out .exit))) ⌝ }
 {
     let mut keys = [0u32; 800];

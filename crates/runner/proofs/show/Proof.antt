@@ -12,7 +12,10 @@ homes-requires : tie.Need-homes-requires
 homes-requires c κs = few-classes _ (c .before .before .pre .0)
 
 write-holdings-requires : tie.Need-write-holdings-requires
-write-holdings-requires c κs = search needs
+write-holdings-requires c κs =
+    let s = c .before .before in
+    let p = s .before .before .before .before .pre in
+    (p .1 .0, (p .1 .1, (_, looked _ (p .0) (s .before .before .owners .ensures) (s .before .homes .ensures))))
 
 same-length : tie.Need-same-length
 same-length c = search needs

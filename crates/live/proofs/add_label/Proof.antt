@@ -1,5 +1,6 @@
 -- `live::add_label` meets its contract: what the set operation comes to in each of its three answers, and the store is one into the labels.
 -- Assumes nothing.
+use native.Mathlib.Omega.{arith}
 use mathlib.Core.Path.{sym, ap, _∙_}
 use borrow.Author.Needs.{needs}
 use Rattle.state.specs.View.{view}
@@ -11,7 +12,7 @@ use Rattle.live.proofs.add_label.Statement.{statement}
 use Rattle.live.proofs.add_label.Tie as tie
 
 has-label-requires : tie.Need-has-label-requires
-has-label-requires c κs = (search needs, labels-reach (c .before .pre))
+has-label-requires c κs = (search needs, omega (arith, labels-reach (c .before .pre)))
 
 returns : tie.Need-returns
 unfolding view

@@ -8,13 +8,13 @@ use Rattle.runs.specs.Steps.{inPool, step}
 use Rattle.state.specs.View.{poolFrom, view}
 use Rattle.state.proofs.Pool.{read-has}
 use Rattle.state.proofs.Premises.{missing, held}
-use Rattle.moves.proofs.Lent.{in-row}
+use Rattle.moves.proofs.Lent.{pool-reach}
 use Rattle.moves.proofs.new.Statement.{statement}
 use Rattle.moves.proofs.new.Tie as tie
 
 -- what stands at the number's place in the pool tells whether it is an object's
 placed : (b : tie.Start) → inPool (poolFrom 0 (b .args .pool .now)) (b .args .r) ≡ not (eqb (getD (b .args .pool .now) (b .args .r) 0) 0xFF)
-placed b = let a = b .args in let w = b .pre .0 in read-has (a .pool .now) (a .r) (in-row (a .labels .now) (w .links) (a .pool .now) (w .saved) (a .at) (w .fine) (a .r) (search needs))
+placed b = let a = b .args in read-has (a .pool .now) (a .r) (pool-reach (b .pre .0) (a .r) (search needs))
 
 element-copy-out-taken : tie.Need-element-copy-out-taken
 element-copy-out-taken c = search needs

@@ -3,11 +3,11 @@
 ghost use mathlib.Core.Path.{_≡_};
 ghost use mathlib.Core.List.{map};
 ghost use Prim.Native.Nat.{ℕ, _+_, _*_, _<_, _≤_};
-ghost use lib.ListN.{length, take, drop, getD};
+ghost use lib.ListN.{length, take, drop};
 ghost use lib.Seq.{sets};
 ghost use Rattle.meaning.specs.Lists.{In};
 ghost use Rattle.meaning.specs.Tables.{Package};
-ghost use Rattle.runs.specs.Holdings.{holding, key, lineOf, textOf, holdingsText};
+ghost use Rattle.runs.specs.Holdings.{holding, key, lineOf, holdingsText};
 ghost use Rattle.runs.specs.Holdings.{Bytes};
 ghost use Rattle.state.specs.View.{view};
 ghost use Rattle.state.specs.Fine.{Fine};

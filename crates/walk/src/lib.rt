@@ -9,7 +9,6 @@ ghost use Rattle.walk.specs.Walk.{Walk, outcomeOf, walkedTo};
 use live::Counts;
 use live::Moved;
 use state::State;
-use steps::Step;
 use steps::Steps;
 use tables::Methods;
 

@@ -1,5 +1,7 @@
 // Rows of bits. A relation on up to 32 domains is 32 words, with bit d of word e for the pair e, d. A relation on up to 127 classes is
 // 254 words, two for each class: bit b of row a is bit b % 64 of word 2 * a + b / 64. What they mean is specs/Rows.antt.
+#![tactic(auto)]
+
 ghost use Rattle.std.specs.Prelude.{◌≡◌, ◌^◌, ◌<◌, get_or};
 ghost use Rattle.bits.specs.Bit.{bit};
 ghost use Rattle.bits.specs.Rows.{or_at, row_bit, add_bit, join_from, join_row, meet_row};

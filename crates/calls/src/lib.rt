@@ -1,4 +1,6 @@
 // The steps 27 to 29 on rows that are lent: one test for each premise, in the order 64, 61, 62, 63; a refused step writes nothing.
+#![tactic(auto)]
+
 ghost use Rattle.std.specs.Prelude.{◌≡◌, List, [], ◌∷◌, map, ℕ, ◌+◌, ◌*◌, ◌≤◌, ◌<◌, length, get_or};
 ghost use Rattle.meaning.specs.Tables.{Package, type_or_none};
 ghost use Rattle.meaning.specs.Text.{byte};

@@ -1,4 +1,5 @@
 // check: reads a package from standard input and prints its answer.
+#![tactic(auto)]
 
 fn main() {
     let mut input = [0u8; 65537];

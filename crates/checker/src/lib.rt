@@ -1,4 +1,6 @@
 // The checker: the answer to a package text, whatever its bytes are.
+#![tactic(auto)]
+
 ghost use Rattle.std.specs.Prelude.{◌≡◌};
 ghost use Rattle.found.specs.Found.{answer_of};
 ghost use Rattle.meaning.specs.Check.{check_of};

@@ -1,4 +1,6 @@
 // The functions to link from C and Rust.
+#![tactic(auto)]
+
 ghost use Rattle.std.specs.Prelude.{◌≡◌};
 ghost use Rattle.meaning.specs.Check.{check_of};
 ghost use Rattle.runs.specs.Programs.{run_of};

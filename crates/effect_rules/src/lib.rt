@@ -1,4 +1,6 @@
 // The rules over effects, 26 to 30: a test for each, one pass for the lowest that is broken, and one search for all. What they mean is `meaning`'s Tests.antt.
+#![tactic(auto)]
+
 ghost use Rattle.std.specs.Prelude.{◌≡◌, ◌<◌, ◌≤◌, length};
 ghost use Rattle.meaning.specs.Check.{first_found, effect_findings};
 ghost use Rattle.meaning.specs.Tests.{breaks26, breaks27, breaks28, breaks29, breaks30};
@@ -13,7 +15,7 @@ use found::{Answer, Found};
 use tables::Tables;
 
 // An effect and the method that has it, with the field and the method of the number that it names: its op says which of the two counts.
-#[derive(Drop)]
+#[derive(Clone, Copy)]
 struct Site {
     effect: tables::Effect,
     caller: tables::Method,
@@ -22,7 +24,7 @@ struct Site {
 }
 
 // The lowest broken rule so far and the first effect that breaks it; 31 is no rule's number, and stands for none.
-#[derive(Drop)]
+#[derive(Clone, Copy)]
 struct Low {
     rule: u8,
     at: usize,

@@ -7,7 +7,7 @@ use crate::tests;
 use tables::{Effect, Effects};
 
 // What is declared: how many classes, fields and methods; and the static bytes of the field and of the method that have the effect's number.
-#[derive(Drop)]
+#[derive(Clone, Copy)]
 pub struct Declared {
     pub classes: usize,
     pub fields: usize,

@@ -1,5 +1,7 @@
 // The holdings of a run state as text: the keys of all that is held, sorted, each written once as a line of nine bytes.
 // What is held is specs/Held.antt.
+#![tactic(auto)]
+
 ghost use Rattle.std.specs.Prelude.{◌≡◌, map, ℕ, ◌+◌, ◌*◌, ◌<◌, ◌≤◌, length, take, drop};
 ghost use Rattle.std.proofs.lemmas.List.Edits.{sets};
 ghost use Rattle.meaning.specs.Lists.{In};

@@ -1,4 +1,6 @@
 // The domain of each class and the class of each method, looked up once, and what classes ask of their domains. What they mean is specs/Homes.antt.
+#![tactic(auto)]
+
 ghost use Rattle.std.specs.Prelude.{◌≡◌, ◌<◌, ◌≤◌, get_or};
 ghost use Rattle.tables.specs.View.{classes_view, methods_view};
 ghost use Rattle.homes.specs.Homes.{homes_of, owners_of, Small, trusts_by, keeps_by};

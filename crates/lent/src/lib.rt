@@ -1,4 +1,6 @@
 // The run state lent by `&mut`: one thin function over the step by value.
+#![tactic(auto)]
+
 ghost use Rattle.std.specs.Prelude.{◌≡◌};
 ghost use Rattle.meaning.specs.Tables.{Package};
 ghost use Rattle.runs.specs.Steps.{step};

@@ -1,4 +1,6 @@
 // Where a reader stands in a text, and the line there: what the readers of both texts share.
+#![tactic(auto)]
+
 ghost use Rattle.std.specs.Prelude.{◌≡◌, ◌≤◌, ◌<◌};
 ghost use Rattle.meaning.specs.Kinds.{row_of};
 ghost use Rattle.text.specs.Scan.{line_in};
@@ -8,7 +10,7 @@ ghost use Rattle.lines.specs.Cursors.{Within, moved_to, line_of, behind_end, las
 use text::Line;
 
 // Where the next line begins, how many lines are read, and the number that refuses the next one, or 0.
-#[derive(Drop)]
+#[derive(Clone, Copy)]
 pub struct Cursor {
     pub at: usize,
     pub line: usize,

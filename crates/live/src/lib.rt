@@ -1,5 +1,7 @@
 // The run state as a run has it: rows of numbers that are lent, one number for each label, link and saved context, and the counts by
 // value. An array of numbers is lent without a copy, and one of structs is not. What they mean is specs/Live.antt.
+#![tactic(auto)]
+
 ghost use Rattle.std.specs.Prelude.{◌≡◌, false, List, map, ℕ, ◌+◌, ◌*◌, ◌≤◌, ◌<◌, length};
 ghost use Rattle.runs.specs.Steps.{holds, holds_ref, has_link, in_pool, join, make, link};
 ghost use Rattle.state.specs.View.{frame_view, links_view, link_view, pool_from, view};
@@ -10,7 +12,7 @@ ghost use Rattle.live.specs.Parts.{FineLabels, FineLinks, FineObjects};
 pub mod structs;
 
 // How many links there are and labels in the running frame, how many contexts are saved, and the method that runs.
-#[derive(Drop)]
+#[derive(Clone, Copy)]
 pub struct Counts {
     pub nlinks: usize,
     pub n: usize,
@@ -19,7 +21,7 @@ pub struct Counts {
 }
 
 // What a step answers: 0, or the number of the refusal; and the counts behind it.
-#[derive(Drop)]
+#[derive(Clone, Copy)]
 pub struct Moved {
     pub code: u8,
     pub now: Counts,

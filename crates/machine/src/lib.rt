@@ -1,4 +1,6 @@
 // A step of the run machine, of any kind: on rows that are lent, and on a state by value.
+#![tactic(auto)]
+
 ghost use Rattle.std.specs.Prelude.{◌≡◌};
 ghost use Rattle.meaning.specs.Tables.{Package};
 ghost use Rattle.runs.specs.Steps.{step};

@@ -1,4 +1,6 @@
 // The steps 20 to 26 on rows that are lent: one test for each premise, in the order 61, 62, 63; a refused step writes nothing.
+#![tactic(auto)]
+
 ghost use Rattle.std.specs.Prelude.{◌≡◌, List, map, ℕ, ◌+◌, ◌*◌, ◌≤◌, ◌<◌, length};
 ghost use Rattle.meaning.specs.Lists.{any};
 ghost use Rattle.meaning.specs.Tables.{Package};

@@ -8,7 +8,7 @@ ghost use Rattle.package.specs.Sections.{Section, with_classes, HasDomains};
 use lines::Cursor;
 use tables::Classes;
 
-#[derive(Drop)]
+#[derive(Clone, Copy)]
 pub struct ClassesRead {
     pub next: Cursor,
     pub classes: Classes,

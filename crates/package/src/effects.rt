@@ -9,7 +9,7 @@ use frames::effects::Declared;
 use lines::Cursor;
 use tables::{Effects, Field, Fields, Method, Methods};
 
-#[derive(Drop)]
+#[derive(Clone, Copy)]
 pub struct EffectsRead {
     pub next: Cursor,
     pub effects: Effects,

@@ -8,7 +8,7 @@ ghost use Rattle.package.specs.Sections.{Section, with_fields, HasClasses};
 use lines::Cursor;
 use tables::Fields;
 
-#[derive(Drop)]
+#[derive(Clone, Copy)]
 pub struct FieldsRead {
     pub next: Cursor,
     pub fields: Fields,

@@ -5,7 +5,7 @@ ghost use Rattle.package.specs.Sections.{HeaderRead, no_header};
 
 use lines::Cursor;
 
-#[derive(Drop)]
+#[derive(Clone, Copy)]
 pub struct Header {
     pub generation: u8,
     pub domains: usize,

@@ -1,6 +1,8 @@
 // Reading a package text (01, "Package text"): from bytes to the tables, or to the first refusal of 1 to 9 with its line.
 // Kinds never fall from line to line, so each section of the text is read by a loop of its own, which holds its own table alone. A line
 // that is not of its kind ends it, and is left to the sections behind it; behind a refusal they read nothing and hand it on.
+#![tactic(auto)]
+
 ghost use Rattle.std.specs.Prelude.{◌≡◌};
 ghost use Rattle.meaning.specs.Reading.{read_text};
 ghost use Rattle.package.specs.Answers.{reading_of, refused_with};
@@ -15,7 +17,7 @@ mod methods;
 mod pairs;
 
 // no is 0 where the text was read, and line is then 0; otherwise the refusal's number and its line, and the tables are empty.
-#[derive(Drop)]
+#[derive(Clone, Copy)]
 pub struct Reading {
     pub no: u8,
     pub line: usize,

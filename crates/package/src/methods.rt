@@ -8,7 +8,7 @@ ghost use Rattle.package.specs.Sections.{Section, with_methods, HasBoth};
 use lines::Cursor;
 use tables::Methods;
 
-#[derive(Drop)]
+#[derive(Clone, Copy)]
 pub struct MethodsRead {
     pub next: Cursor,
     pub methods: Methods,

@@ -8,7 +8,7 @@ ghost use Rattle.package.specs.Sections.{Section, with_pairs, HasDomains};
 use lines::Cursor;
 use tables::Pairs;
 
-#[derive(Drop)]
+#[derive(Clone, Copy)]
 pub struct PairsRead {
     pub next: Cursor,
     pub pairs: Pairs,

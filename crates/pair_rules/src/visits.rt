@@ -4,7 +4,7 @@ ghost use Rattle.pair_rules.specs.Searches.{blank};
 ghost use Rattle.pair_rules.specs.Visits.{FirstFrom, Nearest, OwnStart, Started, Visited};
 
 // Where the row of each place starts, and where a row goes on from each place.
-#[derive(Drop)]
+#[derive(Clone, Copy)]
 pub(crate) struct Visits {
     pub starts: [u16; 256],
     pub nexts: [u16; 256],

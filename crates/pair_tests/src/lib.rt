@@ -1,4 +1,6 @@
 // The tests of the rules of the tables, 10 to 25: each of one pair of numbers, and what is asked before any search. What they mean is specs/.
+#![tactic(auto)]
+
 mod clear;
 mod direct;
 mod rule;

@@ -1,4 +1,6 @@
 // Which steps a package's effects permit: the effects as chains, made once for a run, and a walk along one of them. What they mean is specs/Chains.antt.
+#![tactic(auto)]
+
 ghost use Rattle.std.specs.Prelude.{◌≡◌, ◌<◌, ◌≤◌, ◌/◌, ◌%◌, get_or};
 ghost use Rattle.meaning.specs.Tables.{Package, field_class, field_type};
 ghost use Rattle.runs.specs.Steps.{permits, permits_field};

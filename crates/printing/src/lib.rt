@@ -1,4 +1,6 @@
 // The line of an answer, as the programs print it.
+#![tactic(auto)]
+
 ghost use Rattle.std.specs.Prelude.{◌≡◌, ◌++◌, ◌≤◌, length, drop};
 ghost use Rattle.meaning.specs.Reading.{answer};
 ghost use Rattle.runs.specs.Programs.{answer_line};

@@ -1,4 +1,6 @@
 // What the programs print, as functions of the input's bytes.
+#![tactic(auto)]
+
 ghost use Rattle.std.specs.Prelude.{◌≡◌, length};
 ghost use Rattle.runs.specs.Programs.{check_output};
 ghost use Rattle.programs.specs.Fitting.{fitting, written};

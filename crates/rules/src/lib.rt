@@ -1,4 +1,6 @@
 // The verdict on a package's tables: the rows that the rules look at, made once, and the first broken rule.
+#![tactic(auto)]
+
 ghost use Rattle.std.specs.Prelude.{◌≡◌, ◌&&◌, not, ◌≤◌, eqb};
 ghost use Rattle.found.specs.Found.{answer_of};
 ghost use Rattle.meaning.specs.Check.{verdict};

@@ -12,7 +12,7 @@ use steps::Step;
 
 // What is declared: how many classes, fields and methods; the static bytes of the field and of the method that have the frame's first
 // number, and how many parameters that method has; and the static byte of the method that has its second number.
-#[derive(Drop)]
+#[derive(Clone, Copy)]
 pub struct Named {
     pub classes: usize,
     pub fields: usize,

@@ -1,4 +1,5 @@
 // run: reads a package and a run text from standard input, and prints the answer and the holdings.
+#![tactic(auto)]
 
 fn main() {
     let mut input = [0u8; 65537];

@@ -1,4 +1,6 @@
 // What `run` prints, as a function of its input's bytes.
+#![tactic(auto)]
+
 ghost use Rattle.std.specs.Prelude.{◌≡◌, length};
 ghost use Rattle.runs.specs.Programs.{run_output};
 ghost use Rattle.programs.specs.Fitting.{fitting, written};

@@ -1,4 +1,6 @@
 // A run: a package text and a run text in, the answer and the holdings out, whatever their bytes are.
+#![tactic(auto)]
+
 ghost use Rattle.std.specs.Prelude.{◌≡◌, ◌≤◌, length};
 ghost use Rattle.runs.specs.Run.{run_from};
 ghost use Rattle.runs.specs.Script.{read_script};
@@ -22,7 +24,7 @@ use tables::Tables;
 use walk::Outcome;
 
 // Number and places, and how many bytes of holdings stand at the buffer's start.
-#[derive(Drop)]
+#[derive(Clone, Copy)]
 pub struct RunAnswer {
     pub number: u8,
     pub first: u16,

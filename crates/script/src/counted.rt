@@ -2,13 +2,13 @@
 use lines::Cursor;
 
 // 58 counts the lines, repeated ones too.
-#[derive(Drop)]
+#[derive(Clone, Copy)]
 pub struct Counted {
     pub n: usize,
     pub lines: usize,
 }
 
-#[derive(Drop)]
+#[derive(Clone, Copy)]
 pub struct SetRead {
     pub next: Cursor,
     pub counts: Counted,

@@ -5,7 +5,7 @@ ghost use Rattle.script.specs.Sections.{EntryRead, no_entry};
 
 use lines::Cursor;
 
-#[derive(Drop)]
+#[derive(Clone, Copy)]
 pub struct Entry {
     pub method: u8,
     pub next: Cursor,

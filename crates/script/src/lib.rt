@@ -2,6 +2,8 @@
 // Kinds never fall up to 14, and all steps are one section, so each section of the text is read by a loop of its own, which holds its own
 // array alone. A line that is not of its section ends it, and is left to the sections behind it; behind a refusal they read nothing and
 // hand it on.
+#![tactic(auto)]
+
 ghost use Rattle.std.specs.Prelude.{◌≡◌, map, length};
 ghost use Rattle.runs.specs.Script.{read_script};
 ghost use Rattle.tables.specs.View.{view};
@@ -23,7 +25,7 @@ mod step_lines;
 
 // no is 0 where the text was read, and line is then 0; otherwise the refusal's number and its line, a start before anything is there, and no
 // steps.
-#[derive(Drop)]
+#[derive(Clone, Copy)]
 pub struct Script {
     pub no: u8,
     pub line: usize,

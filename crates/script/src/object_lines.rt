@@ -8,7 +8,7 @@ ghost use Rattle.script.specs.Lists.{with_objects, HasClasses};
 
 use lines::Cursor;
 
-#[derive(Drop)]
+#[derive(Clone, Copy)]
 pub struct ObjectsRead {
     pub next: Cursor,
     pub pool: [u8; 256],

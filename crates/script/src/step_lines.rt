@@ -10,7 +10,7 @@ use run_frames::step::Named;
 use steps::{Step, Steps};
 use tables::{Field, Fields, Method, Methods};
 
-#[derive(Drop)]
+#[derive(Clone, Copy)]
 pub struct StepsRead {
     pub next: Cursor,
     pub steps: Steps,

@@ -1,17 +1,19 @@
 // The run state by value: flat arrays of links, labels and saved contexts with their counts, and the pool. What it means is specs/View.antt.
+#![tactic(auto)]
+
 ghost use Rattle.std.specs.Prelude.{◌≡◌, length};
 ghost use Rattle.runs.specs.Steps.{in_pool};
 ghost use Rattle.state.specs.View.{pool_from, pack, nothing_of};
 
 // r labelled c, in a frame
-#[derive(Drop)]
+#[derive(Clone, Copy)]
 pub struct Label {
     pub r: u8,
     pub c: u8,
 }
 
 // a link of an object, or of a static field: its owner is then FF, which is no reference
-#[derive(Drop)]
+#[derive(Clone, Copy)]
 pub struct Link {
     pub owner: u8,
     pub declared: u8,
@@ -20,7 +22,7 @@ pub struct Link {
 }
 
 // a saved context: its method, the return type that the called method owes it (FF: none), and how many labels its frame has
-#[derive(Drop)]
+#[derive(Clone, Copy)]
 pub struct Saved {
     pub method: u8,
     pub pending: u8,
@@ -29,7 +31,7 @@ pub struct Saved {
 
 // The frame at depth d has the labels from 32 * d on; the running frame is the one at `depth`, with n labels. The pool has the class of each
 // reference, FF where there is no such object.
-#[derive(Drop)]
+#[derive(Clone, Copy)]
 pub struct State {
     pub pool: [u8; 256],
     pub links: [Link; 256],
@@ -42,7 +44,7 @@ pub struct State {
 }
 
 // What a step answers: 0 and the next state, or the number of the refusal and the state as it was.
-#[derive(Drop)]
+#[derive(Clone, Copy)]
 pub struct Done {
     pub code: u8,
     pub state: State,

@@ -1,7 +1,7 @@
 // The table of frame kinds, for both texts.
 
 // A kind's section, its length without counted bytes, and the place of its count byte, 0 for none. A number that is no kind has zeros.
-#[derive(Drop)]
+#[derive(Clone, Copy)]
 pub struct Kind {
     pub section: u8,
     pub size: u8,

@@ -1,4 +1,6 @@
 // Lines and frames of both texts: a line cut off a text, the kinds of frames, and bytes as two digits.
+#![tactic(auto)]
+
 ghost use Rattle.std.specs.Prelude.{◌≡◌, ◌+◌, ◌/◌, ◌%◌, ◌≤◌, ◌<◌, length, set};
 ghost use Rattle.meaning.specs.Text.{hex_digit};
 ghost use Rattle.meaning.specs.Kinds.{row_of};
@@ -14,14 +16,14 @@ use crate::kinds::{
 pub mod kinds;
 
 // A frame: its length, and its first 16 bytes with zeros behind it. No kind has a count byte past them.
-#[derive(Drop)]
+#[derive(Clone, Copy)]
 pub struct Frame {
     pub b: [u8; 16],
     pub n: usize,
 }
 
 // A line cut off a text: whether it keeps the line rule, its frame, and where the next one begins.
-#[derive(Drop)]
+#[derive(Clone, Copy)]
 pub struct Cut {
     pub ok: bool,
     pub frame: Frame,
@@ -29,7 +31,7 @@ pub struct Cut {
 }
 
 // What is said of a line whose frame's first bytes lie elsewhere: whether it keeps the line rule, its frame's length, and where the next one begins.
-#[derive(Drop)]
+#[derive(Clone, Copy)]
 pub struct Line {
     pub ok: bool,
     pub n: usize,

@@ -1,4 +1,6 @@
 // Trust as rows of bits: who dominates whom, which class is below which, which classes are suspicious.
+#![tactic(auto)]
+
 ghost use Rattle.std.specs.Prelude.{◌≡◌, ℕ, ◌+◌, ◌*◌, ◌<◌, ◌≤◌, get_or, replicate};
 ghost use Rattle.tables.specs.View.{view, zero_pair};
 ghost use Rattle.tables.specs.Held.{Held};

@@ -1,4 +1,6 @@
 // The steps of a run, one after the other, as long as the machine takes them.
+#![tactic(auto)]
+
 ghost use Rattle.std.specs.Prelude.{◌≡◌, ◌≤◌, ◌<◌};
 ghost use Rattle.runs.specs.Run.{run_from};
 ghost use Rattle.steps.specs.View.{steps_view};
@@ -12,7 +14,7 @@ use steps::Steps;
 use tables::Methods;
 
 // What a run ends in: 0, or the number that refuses a step and its line; the number of steps taken, and the state behind them.
-#[derive(Drop)]
+#[derive(Clone, Copy)]
 pub struct Outcome {
     pub number: u8,
     pub line: u16,
@@ -21,7 +23,7 @@ pub struct Outcome {
 }
 
 // The same with the counts, where the state is rows that are lent.
-#[derive(Drop)]
+#[derive(Clone, Copy)]
 pub struct Walked {
     pub number: u8,
     pub line: u16,

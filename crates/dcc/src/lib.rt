@@ -1,4 +1,4 @@
-// The functions to link from C and Rust.
+// The functions to link from C and Rust, as Rattle calls them; `dcc_c` exports them.
 #![tactic(auto)]
 
 ghost use Rattle.std.specs.Prelude.{◌≡◌};
@@ -7,8 +7,7 @@ ghost use Rattle.runs.specs.Programs.{run_of};
 ghost use Rattle.dcc.specs.Packed.{packed, packed_run};
 
 // The answer to a package text in one number: 16 bits for its number, 16 for each of its two places.
-#[unsafe(no_mangle)]
-pub extern "C" fn dcc_check(text: &[u8]) -> u64
+pub fn dcc_check(text: &[u8]) -> u64
     ensures { result ≡ packed (check_of text.now) }
 {
     let a = checker::check(text);
@@ -16,8 +15,7 @@ pub extern "C" fn dcc_check(text: &[u8]) -> u64
 }
 
 // The answer to a package text and a run text, with 16 bits for the length of the holdings that then stand at the buffer's start.
-#[unsafe(no_mangle)]
-pub extern "C" fn dcc_run(package: &[u8], script: &[u8], out: &mut [u8]) -> u64
+pub fn dcc_run(package: &[u8], script: &[u8], out: &mut [u8]) -> u64
     ensures answer { result ≡ packed_run (run_of «package».now script.now out.old) }
     ensures buffer { out.new ≡ (run_of «package».now script.now out.old).buffer }
 {

@@ -95,7 +95,7 @@ fn row_as(kind: u8, b: u8) -> Kind
 
 // Whether a frame, of these first bytes and this length, has the length that its kind and its count byte ask for. It is mostly of this kind.
 pub fn fits_as(kind: u8, b: &[u8; 16], n: usize) -> bool
-    ensures { result ≡ fits_frame (record { b = b.entry.now; n = n }) }
+    ensures { result ≡ fits_frame (record { b = b.now; n = n }) }
 {
     let k = row_as(kind, b[0]);
     let size = wide(k.size);
@@ -153,8 +153,8 @@ pub fn no_line(at: usize, b: &mut [u8; 16]) -> Line
 
 // A line whose digits end at i, of n bytes: an LF must stand there, and a byte before it.
 fn closed(s: &[u8], at: usize, i: usize, n: usize, b: &mut [u8; 16]) -> Line
-    ensures value { result ≡ line_in (closed_at s.now at i (record { b = b.entry.now; n = n })) }
-    ensures b_value { b.exit.now ≡ (closed_at s.now at i (record { b = b.entry.now; n = n })).frame.b }
+    ensures value { result ≡ line_in (closed_at s.now at i (record { b = b.old; n = n })) }
+    ensures b_value { b.new ≡ (closed_at s.now at i (record { b = b.old; n = n })).frame.b }
 {
     if s.len() <= i {
         return no_line(at, b);

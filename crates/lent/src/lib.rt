@@ -25,8 +25,8 @@ pub fn step_in_place(
 ) -> u8
     requires fine { Fine s.old }
     requires equipped { (P : Package) × (Equipped P rows.now effects.now pairs.now × Named P k called runs) }
-    ensures s_after { (P : Package) → Equipped P rows.now effects.now pairs.now → Named P k called runs → record { code = result; state = s.new } ≡ done_of s.old (step P (view s.old) (step_view k).step) }
-    ensures fine_2 { Fine s.new }
+    ensures takes_step { (P : Package) → Equipped P rows.now effects.now pairs.now → Named P k called runs → record { code = result; state = s.new } ≡ done_of s.old (step P (view s.old) (step_view k).step) }
+    ensures stays_fine { Fine s.new }
 {
     let d = machine::step(*s, rows, effects, pairs, k, called, runs);
     *s = d.state;

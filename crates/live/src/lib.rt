@@ -136,7 +136,7 @@ pub fn add_link(links: &mut [u32; 256], at: Counts, k: u32) -> Moved
 // The new object r of class c joins the pool, and r labelled c the running frame.
 pub fn add_object(labels: &mut [u16; 544], pool: &mut [u8; 256], at: Counts, r: u8, c: u8) -> Moved
     requires fine_objects { FineObjects labels.old pool.old at }
-    requires r_value { in_pool (pool_from 0 pool.old) r ≡ false }
+    requires not_in_pool { in_pool (pool_from 0 pool.old) r ≡ false }
     ensures { (ks cs : List ℕ) → Fine (state_of labels.old ks pool.old cs at) → moved_to result labels.new ks pool.new cs ≡ done_of (state_of labels.old ks pool.old cs at) (make (view (state_of labels.old ks pool.old cs at)) r c) }
 {
     let m = add_label(labels, at, r, c);

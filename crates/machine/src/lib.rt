@@ -33,7 +33,7 @@ pub fn step_on(
     requires fine { Fine (state_of labels.old links.old pool.old saved.old at) }
     requires equipped { (P : Package) × (Equipped P rows.now effects.now pairs.now × Named P k called runs) }
     ensures answers { (P : Package) → Equipped P rows.now effects.now pairs.now → Named P k called runs → Answers (λ t. step P t (step_view k).step) (state_of labels.old links.old pool.old saved.old at) (moved_to result labels.new links.new pool.new saved.new) }
-    ensures fine_2 { Fine (state_of labels.new links.new pool.new saved.new result.now) }
+    ensures stays_fine { Fine (state_of labels.new links.new pool.new saved.new result.now) }
 {
     let x = k.b[1];
     let y = k.b[2];
@@ -65,7 +65,7 @@ pub fn step(
     requires fine { Fine s }
     requires equipped { (P : Package) × (Equipped P rows.now effects.now pairs.now × Named P k called runs) }
     ensures value { (P : Package) → Equipped P rows.now effects.now pairs.now → Named P k called runs → result ≡ done_of s (step P (view s) (step_view k).step) }
-    ensures fine_2 { Fine result.state }
+    ensures stays_fine { Fine result.state }
 {
     let mut labels = structs::labels_of(s);
     let mut links = structs::links_of(s);

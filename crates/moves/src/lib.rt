@@ -27,7 +27,7 @@ fn index(c: u8) -> usize
 // A <: B.
 pub fn below(rows: &[u64; 254], a: u8, b: u8) -> bool
     ensures value { result ≡ below_by rows.now a b }
-    ensures value_2 { (P : Package) → Supers P rows.now → result ≡ subtype P a b }
+    ensures of_package { (P : Package) → Supers P rows.now → result ≡ subtype P a b }
 {
     if a == b {
         return true;
@@ -63,7 +63,7 @@ pub fn has_below(
     requires n_bound { 32 * depth + n ≤ 544 }
     requires n_in_bounds { 32 * depth + n ≤ length labels.now }
     ensures value { result ≡ any (label_below rows.now r b) (frame_view (map label_of labels.now) depth n) }
-    ensures value_2 { (P : Package) → Supers P rows.now → result ≡ holds_below P (frame_view (map label_of labels.now) depth n) r b }
+    ensures of_package { (P : Package) → Supers P rows.now → result ≡ holds_below P (frame_view (map label_of labels.now) depth n) r b }
 {
     let base = 32 * depth;
     let mut i = 0;
@@ -80,7 +80,7 @@ pub fn has_below(
 pub fn is_a(rows: &[u64; 254], pool: &[u8; 256], r: u8, b: u8) -> bool
     requires { r < length pool.now }
     ensures value { result ≡ any (object_below rows.now r b) (pool_from 0 pool.now) }
-    ensures value_2 { (P : Package) → Supers P rows.now → result ≡ is_a P (pool_from 0 pool.now) r b }
+    ensures of_package { (P : Package) → Supers P rows.now → result ≡ is_a P (pool_from 0 pool.now) r b }
 {
     let c = pool[r as usize];
     if c == 255 {

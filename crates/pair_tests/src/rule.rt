@@ -45,8 +45,8 @@ pub fn breaks_some(
     y: Method,
 ) -> bool
     requires small { Small homes.now }
-    requires fits { Fits x }
-    requires fits_2 { Fits y }
+    requires x_fits { Fits x }
+    requires y_fits { Fits y }
     ensures { result ≡ by_some homes.now doms.now supers.now a b x y }
 {
     if x.class == y.class {

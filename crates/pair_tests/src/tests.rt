@@ -136,8 +136,8 @@ fn overrides(supers: &[u64; 254], x: Method, y: Method) -> bool
 }
 
 pub(crate) fn breaks_23(doms: &[u32; 32], supers: &[u64; 254], x: Method, y: Method) -> bool
-    requires fits { Fits x }
-    requires fits_2 { Fits y }
+    requires x_fits { Fits x }
+    requires y_fits { Fits y }
     ensures { result ≡ by23 doms.now supers.now x y }
 {
     if !overrides(supers, x, y) {
@@ -154,8 +154,8 @@ pub(crate) fn breaks_24(
     y: Method,
 ) -> bool
     requires small { Small homes.now }
-    requires fits { Fits x }
-    requires fits_2 { Fits y }
+    requires x_fits { Fits x }
+    requires y_fits { Fits y }
     ensures { result ≡ by24 homes.now doms.now supers.now x y }
 {
     if !overrides(supers, x, y) {
@@ -175,8 +175,8 @@ pub(crate) fn breaks_25(
     y: Method,
 ) -> bool
     requires small { Small homes.now }
-    requires fits { Fits x }
-    requires fits_2 { Fits y }
+    requires x_fits { Fits x }
+    requires y_fits { Fits y }
     ensures { result ≡ by25 homes.now doms.now supers.now x y }
 {
     if !overrides(supers, x, y) {

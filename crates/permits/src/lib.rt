@@ -92,7 +92,7 @@ pub fn permitted_field(effects: &[u16; 4096], pairs: &[u16; 256], m: u8, op: u8,
 // The declaring class of a field.
 pub fn class_of(pairs: &[u16; 256], f: u8) -> u8
     ensures value { result ≡ get_or pairs.now f 0 / 256 % 256 }
-    ensures value_2 { (P : Package) → Pairs P pairs.now → result ≡ field_class P f }
+    ensures of_package { (P : Package) → Pairs P pairs.now → result ≡ field_class P f }
 {
     (pairs[f as usize] / 256 % 256) as u8
 }
@@ -100,7 +100,7 @@ pub fn class_of(pairs: &[u16; 256], f: u8) -> u8
 // The type of a field.
 pub fn type_of(pairs: &[u16; 256], f: u8) -> u8
     ensures value { result ≡ get_or pairs.now f 0 % 256 }
-    ensures value_2 { (P : Package) → Pairs P pairs.now → result ≡ field_type P f }
+    ensures of_package { (P : Package) → Pairs P pairs.now → result ≡ field_type P f }
 {
     (pairs[f as usize] % 256) as u8
 }

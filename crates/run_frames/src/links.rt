@@ -74,14 +74,14 @@ pub fn judge_object_link(
 // The link's number. A static link's owner is FF.
 pub fn static_link_of(b: &[u8; 16]) -> u32
     ensures value { result ≡ link_number 255 (get_or b.now 1 0) (get_or b.now 2 0) (get_or b.now 3 0) }
-    ensures result_value { link_of result ≡ static_link_in (frame_of b.now 16) }
+    ensures stands_for { link_of result ≡ static_link_in (frame_of b.now 16) }
 {
     live::link_number(255, tests::byte(b[1]), tests::byte(b[2]), tests::byte(b[3]))
 }
 
 pub fn object_link_of(b: &[u8; 16]) -> u32
     ensures value { result ≡ link_number (get_or b.now 1 0) (get_or b.now 2 0) (get_or b.now 3 0) (get_or b.now 4 0) }
-    ensures result_value { link_of result ≡ object_link_in (frame_of b.now 16) }
+    ensures stands_for { link_of result ≡ object_link_in (frame_of b.now 16) }
 {
     live::link_number(
         b[1],

@@ -14,8 +14,8 @@ fn one_label(labels: &mut [u16; 544], x: Counted, l: Label) -> Counted
     requires labels_len { length labels.old ≡ 544 }
     requires n_le_lines { x.n ≤ x.lines }
     requires lines_bound { x.lines < 32 }
-    ensures result_after { labels_in labels.new result ≡ one_label (labels_in labels.old x) l }
-    ensures labels_len_2 { length labels.new ≡ 544 }
+    ensures added { labels_in labels.new result ≡ one_label (labels_in labels.old x) l }
+    ensures labels_len_after { length labels.new ≡ 544 }
 {
     let n = x.n;
     let lines = x.lines + 1;

@@ -51,8 +51,8 @@ fn one_link(links: &mut [u32; 256], x: Counted, k: u32) -> Counted
     requires links_len { length links.old ≡ 256 }
     requires n_le_lines { x.n ≤ x.lines }
     requires lines_bound { x.lines < 256 }
-    ensures result_after { links_in links.new result ≡ one_link (links_in links.old x) (link_of k) }
-    ensures links_len_2 { length links.new ≡ 256 }
+    ensures added { links_in links.new result ≡ one_link (links_in links.old x) (link_of k) }
+    ensures links_len_after { length links.new ≡ 256 }
 {
     let n = x.n;
     let lines = x.lines + 1;
@@ -78,13 +78,13 @@ fn read_kind(
 ) -> SetRead
     requires within { Within s.now from }
     requires digits_value { digits.now ≡ digit_table }
-    requires fact { (kind ≡ 0x12) ⊎ (kind ≡ 0x13) }
+    requires link_kind { (kind ≡ 0x12) ⊎ (kind ≡ 0x13) }
     requires links_len { (length links.old ≡ 256) × SomeLinks (links_in links.old before) }
     requires nc_bound { nc ≤ 127 }
     requires pool_len { length pool.now ≡ 256 }
     requires declares { (fields : Fields) × Declares (static_by kind) fields declared.now }
     ensures section { (fields : Fields) → Declares (static_by kind) fields declared.now → (ks : List M.Link) → HoldsLinks ks (links_in links.old before) → Section HoldsLinks with_links (HasFields nc fields pool.now rows.now) kind s.now from ks result.next (links_in links.new result.counts) }
-    ensures links_len_2 { length links.new ≡ 256 }
+    ensures links_len_after { length links.new ≡ 256 }
 {
     let mut x = before;
     let mut next = from;

@@ -64,7 +64,7 @@ pub fn walk(
     pairs: &[u16; 256],
 ) -> Walked
     requires { Walk rows.now effects.now pairs.now methods (state_of labels.old links.old pool.old saved.old at) steps }
-    ensures saved_after { (w : Walk rows.now effects.now pairs.now methods (state_of labels.old links.old pool.old saved.old at) steps) → walked_to result labels.new links.new pool.new saved.new ≡ outcome_of (run_from w.loaded w.begun.state 0 (steps_view steps)) }
+    ensures walked { (w : Walk rows.now effects.now pairs.now methods (state_of labels.old links.old pool.old saved.old at) steps) → walked_to result labels.new links.new pool.new saved.new ≡ outcome_of (run_from w.loaded w.begun.state 0 (steps_view steps)) }
     ensures fine { Fine (state_of labels.new links.new pool.new saved.new result.now) }
 {
     let mut now = at;

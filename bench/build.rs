@@ -1,4 +1,4 @@
-// Links the product's static library: libdcc.a of the folder DCC_LIB_DIR, or target/staticlib, where `rt staticlib dcc` writes it.
+// Links the product's static library: libdcc.a of the folder DCC_LIB_DIR, or target/staticlib, where `bin/build dcc_c` writes it.
 fn main() {
     println!("cargo:rerun-if-env-changed=DCC_LIB_DIR");
     let folder = std::env::var("DCC_LIB_DIR").unwrap_or("../target/staticlib".to_string());

@@ -1,7 +1,7 @@
 /* Furlantecco for C: two functions over texts in memory. dcc_check says whether a package keeps the rules of discretionary capability
  * confinement; dcc_run takes a run text's steps over a package and writes what each domain then holds.
  *
- * `rt staticlib dcc` proves them and writes target/staticlib/libdcc.a (x86-64; it needs memcpy and memset of the C library, and nothing
+ * `bin/build dcc_c` proves them and writes target/staticlib/libdcc.a (x86-64; it needs memcpy and memset of the C library, and nothing
  * else). examples/embed.c calls both; docs/NUMBERS.md explains each answer.
  *
  * Both functions

@@ -85,7 +85,7 @@ fn pass(labels: &mut [u16; 544], from: Counts, k: Step, at: usize, called: Metho
     requires n_bound { from.n ≤ 1 }
     requires at_bound { at ≤ 4 }
     requires k_bound { called.k ≤ 6 }
-    requires at_value { byte k.b at ≡ called.k }
+    requires argument_count { byte k.b at ≡ called.k }
     ensures { (ks os cs : List ℕ) → Fine (state_of labels.old ks os cs from) → state_of labels.new ks os cs result ≡ pack (joined (view (state_of labels.old ks os cs from)) (passed (arguments_at k.b at) (params_in called))) }
 {
     let count = wide(called.k);
@@ -127,7 +127,7 @@ fn call_static(
 ) -> Moved
     requires fine_frames { FineFrames labels.old saved.old at }
     requires k_bound { called.k ≤ 6 }
-    requires b_value { byte k.b 2 ≡ called.k }
+    requires argument_count { byte k.b 2 ≡ called.k }
     ensures { (ks os : List ℕ) → Answers (λ t. call t (type_or_none called.result) number (passed (arguments_at k.b 2) (params_in called))) (state_of labels.old ks os saved.old at) (moved_to result labels.new ks os saved.new) }
 {
     if 16 <= at.depth {
@@ -151,7 +151,7 @@ fn call_method(
 ) -> Moved
     requires fine_frames { FineFrames labels.old saved.old at }
     requires k_bound { called.k ≤ 6 }
-    requires b_value { byte k.b 4 ≡ called.k }
+    requires argument_count { byte k.b 4 ≡ called.k }
     ensures { (ks os : List ℕ) → Answers (λ t. call t (type_or_none called.result) v (label r runs.class ∷ passed (arguments_at k.b 4) (params_in called))) (state_of labels.old ks os saved.old at) (moved_to result labels.new ks os saved.new) }
 {
     if 16 <= at.depth {

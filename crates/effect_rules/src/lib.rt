@@ -104,7 +104,7 @@ fn breaks_29(homes: &[u8; 127], doms: &[u32; 32], s: Site) -> bool
 
 // C ▷ m: C's domain ► m's label
 fn trusts_label(homes: &[u8; 127], doms: &[u32; 32], c: u8, label: u8) -> bool
-    requires c_bound { (c < 127) × (label < 32) }
+    requires numbers_bound { (c < 127) × (label < 32) }
     requires small { Small homes.now }
     ensures { result ≡ label_bit homes.now doms.now label c }
 {
@@ -114,7 +114,7 @@ fn trusts_label(homes: &[u8; 127], doms: &[u32; 32], c: u8, label: u8) -> bool
 // C ▷ B, or A ⋈ B, or both B ▷ m and C ▷ m
 fn granted(homes: &[u8; 127], doms: &[u32; 32], label: u8, a: u8, b: u8, c: u8) -> bool
     requires label_bound { label < 32 }
-    requires a_bound { (a < 127) × ((b < 127) × (c < 127)) }
+    requires numbers_bound { (a < 127) × ((b < 127) × (c < 127)) }
     requires small { Small homes.now }
     ensures { Grants homes.now doms.now label a b c result }
 {
@@ -130,7 +130,7 @@ fn granted(homes: &[u8; 127], doms: &[u32; 32], label: u8, a: u8, b: u8, c: u8) 
 // a call of B.n from A.m, with its parameter j of type C
 fn breaks_30(homes: &[u8; 127], doms: &[u32; 32], s: Site, j: usize) -> bool
     requires known { Known homes.now doms.now s }
-    requires le_op { (6 ≤ s.effect.op) × (j < s.called.k) }
+    requires called_parameter { (6 ≤ s.effect.op) × (j < s.called.k) }
     ensures { Judges breaks30 homes.now doms.now s j result }
 {
     let m = s.caller;

@@ -128,7 +128,7 @@ fn put_line(out: &mut [u8], at: usize, key: u32)
 // A line for each key that differs from the one before.
 fn put_lines(out: &mut [u8], keys: &[u32]) -> usize
     requires keys_in_bounds { 9 * length keys.now ≤ length out.old }
-    requires by_index { (k : ℕ) → In k keys.now → k < no_key }
+    requires keys_bound { (k : ℕ) → In k keys.now → k < no_key }
     ensures { Put (lines_of no_key keys.now) out.old result out.new }
 {
     let mut at: usize = 0;

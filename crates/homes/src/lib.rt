@@ -49,7 +49,7 @@ pub fn home(homes: &[u8; 127], c: u8) -> usize
 
 // B ▷ A.
 pub fn trusts(homes: &[u8; 127], doms: &[u32; 32], b: u8, a: u8) -> bool
-    requires b_bound { (b < 127) × (a < 127) }
+    requires numbers_bound { (b < 127) × (a < 127) }
     requires small { Small homes.now }
     ensures { result ≡ trusts_by homes.now doms.now b a }
 {
@@ -58,7 +58,7 @@ pub fn trusts(homes: &[u8; 127], doms: &[u32; 32], b: u8, a: u8) -> bool
 
 // Neither C ▷ A nor X ⋈ Y.
 pub fn keeps_from(homes: &[u8; 127], doms: &[u32; 32], a: u8, x: u8, y: u8, c: u8) -> bool
-    requires a_bound { ((a < 127) × (c < 127)) × ((x < 127) × (y < 127)) }
+    requires numbers_bound { ((a < 127) × (c < 127)) × ((x < 127) × (y < 127)) }
     requires small { Small homes.now }
     ensures { result ≡ keeps_by homes.now doms.now a x y c }
 {

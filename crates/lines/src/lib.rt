@@ -39,7 +39,7 @@ pub fn moved(c: Cursor, at: usize) -> Cursor
 // a section that has the number of a kind, which most of its lines are of. Its frame's first bytes go where the caller lends room for them.
 pub fn line_into(digits: &[u32; 512], s: &[u8], c: Cursor, section: u8, b: &mut [u8; 16]) -> Line
     requires digits_value { digits.now ≡ digit_table }
-    requires section_value { (row_of section).section ≡ section }
+    requires kind_section { (row_of section).section ≡ section }
     ensures value { result ≡ line_in (line_of s.now c section) }
     ensures b_after { b.new ≡ (line_of s.now c section).frame.b }
 {

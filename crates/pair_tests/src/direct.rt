@@ -28,7 +28,7 @@ fn step_fails(
     c: usize,
     s: u8,
 ) -> bool
-    requires c_bound { (c < 127) × (s < 127) }
+    requires numbers_bound { (c < 127) × (s < 127) }
     requires small { Small homes.now }
     ensures { result ≡ step_fails rule homes.now doms.now apart.now c s }
 {

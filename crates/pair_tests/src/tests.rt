@@ -94,7 +94,7 @@ pub(crate) fn breaks_21(
     a: usize,
     b: usize,
 ) -> bool
-    requires a_bound { (a < 127) × (b < 127) }
+    requires numbers_bound { (a < 127) × (b < 127) }
     requires small { Small homes.now }
     ensures { result ≡ by21 homes.now doms.now supers.now a b }
 {

@@ -154,7 +154,7 @@ pub fn no_line(at: usize, b: &mut [u8; 16]) -> Line
 // A line whose digits end at i, of n bytes: an LF must stand there, and a byte before it.
 fn closed(s: &[u8], at: usize, i: usize, n: usize, b: &mut [u8; 16]) -> Line
     ensures value { result ≡ line_in (closed_at s.now at i (record { b = b.old; n = n })) }
-    ensures b_value { b.new ≡ (closed_at s.now at i (record { b = b.old; n = n })).frame.b }
+    ensures b_after { b.new ≡ (closed_at s.now at i (record { b = b.old; n = n })).frame.b }
 {
     if s.len() <= i {
         return no_line(at, b);

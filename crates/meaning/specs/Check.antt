@@ -1,6 +1,6 @@
 -- The answer to a package text (01, "Numbers a package answers with", "Order"): what computes it.
 -- Assumes nothing.
-use Rattle.std.specs.Prelude.{ℕ, Bool, true, false, List, [], ◌∷◌, ◌++◌, length}
+use Rattle.std.specs.Prelude.{ℕ, Bool, List, [], ◌∷◌, ◌++◌, length}
 use Rattle.std.proofs.Math.Option.{Option, none, some}
 use Rattle.meaning.specs.Lists.{Place, first_place}
 use Rattle.meaning.specs.Tables.{Package, params_of, named_by}

@@ -2,7 +2,7 @@
 -- Assumes nothing.
 use Rattle.std.specs.Prelude.{ℕ, ◌≡◌, List, [], ◌∷◌, ◌++◌}
 use Prim.Native.String.{String, [] as []ˢ, ◌∷◌ as ◌∷ˢ◌}
-use Prim.Native.Char.{Char, code}
+use Prim.Native.Char.{code}
 use Rattle.meaning.specs.Reading.{Answer, answer}
 use Rattle.meaning.specs.Check.{check_of}
 

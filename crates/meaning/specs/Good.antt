@@ -1,9 +1,9 @@
 -- What a package that is read guarantees (01, "Package text"): every count in its limit, every number declared and of its kind,
 -- supertypes lower than the class. Everything behind the reader rests on this.
 -- Assumes nothing.
-use Rattle.std.specs.Prelude.{ℕ, ◌≤◌, ◌<◌, ◌≡◌, ◌⊎◌, List, T, length}
+use Rattle.std.specs.Prelude.{ℕ, ◌≤◌, ◌<◌, ◌≡◌, ◌⊎◌, T, length}
 use Rattle.meaning.specs.Lists.{In}
-use Rattle.meaning.specs.Tables.{Package, Pair, Class, Field, Method, Effect, field_at, method_at, home, supers_of, owner_of, label_of, slot_of, params_of, field_class, field_type, caller_of, op_of, named_by}
+use Rattle.meaning.specs.Tables.{Package, Pair, field_at, method_at, home, supers_of, owner_of, label_of, slot_of, params_of, field_class, field_type, caller_of, op_of, named_by}
 use Rattle.meaning.specs.Reading.{is_named}
 
 pub record GoodPair (P : Package) (p : Pair) : Type 0 where

@@ -2,7 +2,7 @@
 -- A kind has its section (what may not fall from line to line: a kind's own number, and 20 for every step), its length without
 -- counted bytes, and the place of its count byte k, 0 for none.
 -- Assumes nothing.
-use Rattle.std.specs.Prelude.{ℕ, ◌+◌, Bool, true, false, ◌&&◌, cond, List, [], ◌∷◌, eqb, leb, ltb, length}
+use Rattle.std.specs.Prelude.{ℕ, ◌+◌, Bool, ◌&&◌, cond, List, [], ◌∷◌, eqb, leb, ltb, length}
 use Rattle.std.proofs.Math.Option.{Option, none, some}
 use Rattle.meaning.specs.Lists.{first}
 use Rattle.meaning.specs.Text.{byte}

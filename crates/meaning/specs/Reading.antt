@@ -6,7 +6,7 @@ use Rattle.std.specs.Prelude.{ℕ, suc, ◌+◌, ◌*◌, Bool, true, false, ◌
 use Rattle.std.proofs.Math.Option.{Option, none, some}
 use Rattle.meaning.specs.Lists.{all}
 use Rattle.meaning.specs.Text.{Line, lines_of, frame_of, byte}
-use Rattle.meaning.specs.Kinds.{Kind, row_of, fits, follows}
+use Rattle.meaning.specs.Kinds.{row_of, fits, follows}
 use Rattle.meaning.specs.Tables.{Pair, Class, Field, Method, Effect, Package, field_at, method_at}
 
 -- every answer has a number and two places; unused places are 0

@@ -2,7 +2,7 @@
 -- answer that they ask for. What computes the same is in Tests.antt.
 -- Assumes nothing.
 use Rattle.std.specs.Prelude.{ℕ, ◌<◌, ◌≡◌, ◌⊎◌, List, [], ◌∷◌, length, get_or}
-use Rattle.std.proofs.Math.Option.{Option, none, some}
+use Rattle.std.proofs.Math.Option.{some}
 use Rattle.meaning.specs.Lists.{In}
 use Rattle.meaning.specs.Tables.{Package, home, owner_of, target_of, potency_of, result_of, params_of, field_class, field_type, caller_of, site_of, op_of, named_by}
 use Rattle.meaning.specs.Trust.{Dominated, Trusts, MethodTrusts, Mates, Suspicious, Subtype, OneSlot, Overrides}

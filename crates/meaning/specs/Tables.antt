@@ -1,7 +1,7 @@
 -- A package's tables (01, "Package text"): a record for each frame, field for field, the raw lists as read; and what the other
 -- definitions ask of them.
 -- Assumes nothing.
-use Rattle.std.specs.Prelude.{ℕ, ◌<◌, ◌≡◌, Bool, true, false, cond, List, [], ◌∷◌, eqb, length, get_or}
+use Rattle.std.specs.Prelude.{ℕ, ◌≡◌, cond, List, [], eqb, get_or}
 use Rattle.std.proofs.Math.Option.{Option, none, some}
 
 -- 02 EE DD: E ► D

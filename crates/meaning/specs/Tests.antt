@@ -3,7 +3,7 @@
 -- Assumes nothing.
 use Rattle.std.specs.Prelude.{ℕ, zero, suc, Bool, true, false, ◌&&◌, ◌||◌, not, List, [], ◌∷◌, eqb, ltb, length, get_or}
 use Rattle.std.proofs.Math.Option.{Option, none, some}
-use Rattle.meaning.specs.Lists.{any, member, first, any_below, Place, first_place}
+use Rattle.meaning.specs.Lists.{any, member, first, any_below}
 use Rattle.meaning.specs.Tables.{Package, Pair, method_at, home, supers_of, owner_of, label_of, target_of, potency_of, slot_of, result_of, params_of, field_class, field_type, caller_of, site_of, op_of, named_by}
 
 -- ---- ►: from e the listed pairs lead to d, or to the root, which all dominate

@@ -1,8 +1,8 @@
 -- Trust (01, "Trust"; 003, 3.2): ► and <: as the least relations that 01 names, and what it says over them.
 -- Assumes nothing.
-use Rattle.std.specs.Prelude.{ℕ, ◌≡◌, List}
+use Rattle.std.specs.Prelude.{ℕ, ◌≡◌}
 use Rattle.meaning.specs.Lists.{In}
-use Rattle.meaning.specs.Tables.{Package, Pair, home, supers_of, owner_of, label_of, slot_of, InstanceMethod}
+use Rattle.meaning.specs.Tables.{Package, home, supers_of, owner_of, label_of, slot_of, InstanceMethod}
 
 -- E ► D, "D dominates E": the smallest relation that is reflexive, transitive, has 0 ► D for all D, and contains every listed pair
 pub data Dominated (P : Package) : ℕ → ℕ → Type 0 where

@@ -1,6 +1,6 @@
 -- Which second places a search looks at beside a first one: those of the same key, in rising order. A pair of other keys breaks no rule.
 -- Assumes nothing.
-use Rattle.std.specs.Prelude.{ℕ, ◌+◌, ◌%◌, ◌≤◌, ◌<◌, ◌≡◌, Bool, true, false, List, map, length, get_or}
+use Rattle.std.specs.Prelude.{ℕ, ◌+◌, ◌%◌, ◌≤◌, ◌<◌, ◌≡◌, Bool, true, List, map, length, get_or}
 
 -- r is the first place from `from` on whose key is k, or n
 pub record FirstFrom (keys : List ℕ) (n from k r : ℕ) : Type 0 where

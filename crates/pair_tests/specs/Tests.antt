@@ -1,7 +1,7 @@
 -- The tests of the rules of the tables as the code asks them: of two numbers, of the methods x and y of these numbers, of the homes of the classes
 -- and of rows of bits. proofs/Laws.antt says that they are `meaning`'s.
 -- Assumes nothing.
-use Rattle.std.specs.Prelude.{ℕ, Bool, true, false, ◌&&◌, ◌||◌, not, cond, List, [], eqb, ltb, length, get_or, take}
+use Rattle.std.specs.Prelude.{ℕ, Bool, ◌&&◌, ◌||◌, not, cond, List, eqb, ltb, length, get_or, take}
 use Rattle.meaning.specs.Lists.{any, any_below}
 use Rattle.meaning.specs.Tables.{Package}
 use Rattle.meaning.specs.Tests.{same_numbers, subtype, suspicious}

@@ -1,7 +1,7 @@
 -- What the run state means: `runs`' state. Behind each count stands the zero element, so that of two states with one meaning both are
 -- one value: `pack (view s)`.
 -- Assumes nothing.
-use Rattle.std.specs.Prelude.{ℕ, zero, suc, ◌+◌, ◌*◌, cond, List, [], ◌∷◌, ◌++◌, map, eqb, length, take, drop, get_or}
+use Rattle.std.specs.Prelude.{ℕ, zero, suc, ◌*◌, cond, List, [], ◌∷◌, ◌++◌, map, eqb, length, take, drop, get_or}
 use Rattle.std.proofs.Math.Option.{Option, none, some}
 use Rattle.meaning.specs.Tables.{type_or_none}
 use Rattle.runs.specs.Machine as M

@@ -1,6 +1,6 @@
 -- The one value of the tables that means a package: each list at the start of its array, zero elements behind it.
 -- Assumes nothing.
-use Rattle.std.specs.Prelude.{ℕ, ◌-◌, List, [], ◌∷◌, ◌++◌, map, length, replicate}
+use Rattle.std.specs.Prelude.{ℕ, ◌-◌, List, ◌++◌, map, length, replicate}
 use Rattle.meaning.specs.Tables.{Package}
 use Rattle.meaning.specs.Tables as M
 use Rattle.tables.specs.declared.Pair.{Pair}

@@ -1,7 +1,7 @@
 -- What the tables mean: the first n elements of each array are `meaning`'s list. Behind a count stands the zero element, so that
 -- tables with one meaning are one value.
 -- Assumes nothing.
-use Rattle.std.specs.Prelude.{ℕ, ◌≤◌, ◌<◌, ◌≡◌, List, map, length, get_or, take, replicate}
+use Rattle.std.specs.Prelude.{List, map, take, replicate}
 use Rattle.meaning.specs.Tables.{Package}
 use Rattle.meaning.specs.Tables as M
 use Rattle.tables.specs.declared.Pair.{Pair}

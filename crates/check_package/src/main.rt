@@ -1,4 +1,4 @@
-// check: reads a package from standard input and prints its answer.
+//! check: reads a package from standard input and prints its answer.
 #![tactic(auto)]
 
 use std::io::{self, Read, Write};

@@ -1,4 +1,4 @@
-// The functions to link from C and Rust, as Rattle calls them; `dcc_c` exports them.
+//! The functions to link from C and Rust, as Rattle calls them; `dcc_c` exports them.
 #![tactic(auto)]
 
 ghost use Rattle.std.specs.Prelude.{◌≡◌};
@@ -6,22 +6,29 @@ ghost use Rattle.meaning.specs.Check.{check_of};
 ghost use Rattle.runs.specs.Programs.{run_of};
 ghost use Rattle.dcc.specs.Packed.{packed, packed_run};
 
-// The answer to a package text in one number: 16 bits for its number, 16 for each of its two places.
+use answer::Answer;
+
+/// 16 bits for the number of an answer, and 16 for each of its two places.
+fn packed(answer: Answer) -> u64
+    ensures { result ≡ packed (record { number = answer.number; first = answer.first; second = answer.second }) }
+{
+    u64::from(answer.number)
+        + u64::from(answer.first) * 65536
+        + u64::from(answer.second) * 4294967296
+}
+
+/// The answer to a package text in one number.
 pub fn dcc_check(text: &[u8]) -> u64
     ensures { result ≡ packed (check_of text.now) }
 {
-    let a = checker::check(text);
-    (a.number as u64) + (a.first as u64) * 65536 + (a.second as u64) * 4294967296
+    packed(checker::check(text))
 }
 
-// The answer to a package text and a run text, with 16 bits for the length of the holdings that then stand at the buffer's start.
+/// The answer to a package text and a run text, with 16 bits for the length of the holdings that then stand at the buffer's start.
 pub fn dcc_run(package: &[u8], script: &[u8], out: &mut [u8]) -> u64
     ensures answer { result ≡ packed_run (run_of «package».now script.now out.old) }
     ensures buffer { out.new ≡ (run_of «package».now script.now out.old).buffer }
 {
-    let a = runner::run(package, script, out);
-    (a.number as u64)
-        + (a.first as u64) * 65536
-        + (a.second as u64) * 4294967296
-        + (a.length as u64) * 281474976710656
+    let ran = runner::run(package, script, out);
+    packed(ran.answer) + u64::from(ran.length) * 281474976710656
 }

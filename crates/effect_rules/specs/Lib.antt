@@ -1,2 +1,4 @@
+pub mod Rules
 pub mod Sites
+pub mod Facts
 pub mod Search

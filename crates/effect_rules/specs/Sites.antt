@@ -1,39 +1,101 @@
--- An effect as the tests see it: its own entries of the tables, the domain of each class and the rows of ►.
+-- What an effect of a package does, and the rows of the tables that its numbers name.
 -- Assumes nothing.
-use Rattle.std.specs.Prelude.{ℕ, ◌<◌, ◌≡◌, Bool, List, length, get_or}
-use Rattle.meaning.specs.Tables.{Package, field_at, method_at, effect_at, label_of, caller_of, named_by}
-use Rattle.meaning.specs.Tests.{granted}
-use Rattle.tables.specs.Pack.{pack_field, pack_method, pack_effect}
-use Rattle.bits.specs.Bit.{bit}
-use Rattle.homes.specs.Homes.{Rows}
-use Rattle.effect_rules.specs.declared.Site.{Site}
+use Rattle.std.specs.Prelude.{ℕ, ◌<◌, ◌≤◌, ◌≡◌, Bool, true, false, ◌||◌, Some, None, eqb, length, take}
+use Rattle.meaning.specs.Tables.{Package, owner_of, label_of, result_of, params_of, field_class, field_type, caller_of, op_of, named_by}
+use Rattle.meaning.specs.Tests.{of_result}
+use Rattle.tables.specs.declared.elements.Field.{Field}
+use Rattle.tables.specs.declared.elements.Method.{Method}
+use Rattle.tables.specs.declared.elements.Effect.{Effect}
+use Rattle.tables.specs.View.{operation_number}
+use Rattle.effect_rules.specs.declared.site.Named.{Named}
+use Rattle.effect_rules.specs.declared.site.Named.TheVariants.{Created, CastTo, Read, Written, CalledStatic, Called}
 
--- s is effect i of P, with the field and the method that its number names where they are declared
-pub record Seen (homes doms : List ℕ) (s : Site) (P : Package) (i : ℕ) : Type 0 where
-  pub rows : Rows P homes doms
-  pub declared : i < length P.effects
-  pub effect : s.effect ≡ pack_effect (effect_at P i)
-  pub caller : s.caller ≡ pack_method (method_at P (caller_of P i))
-  pub field : named_by P i < length P.fields → s.field ≡ pack_field (field_at P (named_by P i))
-  pub called : named_by P i < length P.methods → s.called ≡ pack_method (method_at P (named_by P i))
+-- ---- what is done
 
--- some package has it
-abbrev pub Known : List ℕ → List ℕ → Site → Type 0
-Known homes doms s = (P : Package) × (i : ℕ) × Seen homes doms s P i
+abbrev pub is_made : Named → Bool
+is_made (Created class) = true
+is_made (CastTo class) = true
+is_made (Read field) = false
+is_made (Written field) = false
+is_made (CalledStatic method) = false
+is_made (Called method) = false
 
--- and of every one that has it, r says whether it breaks the rule at j
-abbrev pub Judges : (Package → ℕ → ℕ → Bool) → List ℕ → List ℕ → Site → ℕ → Bool → Type 0
-Judges breaks homes doms s j r = (P : Package) (i : ℕ) → Seen homes doms s P i → r ≡ breaks P i j
+abbrev pub is_read : Named → Bool
+is_read (Created class) = false
+is_read (CastTo class) = false
+is_read (Read field) = true
+is_read (Written field) = false
+is_read (CalledStatic method) = false
+is_read (Called method) = false
 
--- the same of what has no second place
-abbrev pub Judged : {A : Type 0} → (Package → ℕ → A) → List ℕ → List ℕ → Site → A → Type 0
-Judged broken homes doms s r = (P : Package) (i : ℕ) → Seen homes doms s P i → r ≡ broken P i
+abbrev pub is_written : Named → Bool
+is_written (Created class) = false
+is_written (CastTo class) = false
+is_written (Read field) = false
+is_written (Written field) = true
+is_written (CalledStatic method) = false
+is_written (Called method) = false
 
--- c ▷ m, of a class and a method with that label
-unfoldable pub label_bit : List ℕ → List ℕ → ℕ → ℕ → Bool
-unfolding bit
-label_bit homes doms label c = bit (get_or doms (get_or homes c 0) 0) label
+abbrev pub is_called_static : Named → Bool
+is_called_static (Created class) = false
+is_called_static (CastTo class) = false
+is_called_static (Read field) = false
+is_called_static (Written field) = false
+is_called_static (CalledStatic method) = true
+is_called_static (Called method) = false
 
--- of every package with these homes and rows, r says whether a method with that label grants c to b from a
-abbrev pub Grants : List ℕ → List ℕ → ℕ → ℕ → ℕ → ℕ → Bool → Type 0
-Grants homes doms label a b c r = (P : Package) (m : ℕ) → Rows P homes doms → label_of P m ≡ label → label < P.domains → r ≡ granted P m a b c
+abbrev pub is_called : Named → Bool
+is_called (Created class) = false
+is_called (CastTo class) = false
+is_called (Read field) = false
+is_called (Written field) = false
+is_called (CalledStatic method) = true
+is_called (Called method) = true
+
+-- an effect with this op does this, and nothing else
+pub record DoesBy (op : ℕ) (named : Named) : Type 0 where
+  pub makes : (eqb op 0 || eqb op 1) ≡ is_made named
+  pub reads : (eqb op 2 || eqb op 4) ≡ is_read named
+  pub writes : (eqb op 3 || eqb op 5) ≡ is_written named
+  pub calls_static : eqb op 6 ≡ is_called_static named
+  pub calls : (eqb op 6 || eqb op 7) ≡ is_called named
+
+-- ---- with what
+
+-- this is field x
+pub record IsField (P : Package) (x : ℕ) (field : Field) : Type 0 where
+  pub class : field.class ≡ field_class P x
+  pub typ : field.typ ≡ field_type P x
+
+-- this is method x
+pub record IsMethod (P : Package) (x : ℕ) (method : Method) : Type 0 where
+  pub class : method.class ≡ owner_of P x
+  pub label : method.label ≡ label_of P x
+  pub label_declared : method.label < P.domains
+  pub no_result : (f : ℕ → Bool) → method.result ≡ None → of_result f (result_of P x) ≡ false
+  pub some_result : (f : ℕ → Bool) (class : ℕ) → method.result ≡ Some class → of_result f (result_of P x) ≡ f class
+  pub parameters : take method.parameter_count method.parameters ≡ params_of P x
+
+-- its number names this
+abbrev pub Names : Package → ℕ → Named → Type 0
+Names P x (Created class) = class ≡ x
+Names P x (CastTo class) = class ≡ x
+Names P x (Read field) = IsField P x field.now
+Names P x (Written field) = IsField P x field.now
+Names P x (CalledStatic method) = IsMethod P x method.now
+Names P x (Called method) = IsMethod P x method.now
+
+-- ---- an effect of the tables
+
+-- what it names is declared
+pub record IsDeclared (P : Package) (effect : Effect) : Type 0 where
+  pub field : 2 ≤ operation_number effect.operation → operation_number effect.operation ≤ 5 → effect.number < length P.fields
+  pub method : 6 ≤ operation_number effect.operation → effect.number < length P.methods
+
+-- this is effect i
+pub record IsEffect (P : Package) (i : ℕ) (effect : Effect) : Type 0 where
+  pub method : effect.method ≡ caller_of P i
+  pub op : operation_number effect.operation ≡ op_of P i
+  pub number : effect.number ≡ named_by P i
+  pub method_declared : effect.method < length P.methods
+  pub declared : IsDeclared P effect

@@ -1,1 +1,13 @@
-pub mod Equipped
+pub mod Refusal
+pub mod Frame
+pub mod Snapshot
+pub mod StateView
+pub mod Step
+pub mod Definitions
+pub mod Loaded
+pub mod Allowed
+pub mod Overriding
+pub mod Steps
+pub mod Fits
+pub mod Run
+pub mod Reached

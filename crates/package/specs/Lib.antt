@@ -1,2 +1,4 @@
-pub mod Sections
-pub mod Answers
+pub mod Judging
+pub mod Elements
+pub mod Taking
+pub mod Readings

@@ -1,3 +1,3 @@
-pub mod Visits
-pub mod Searches
+pub mod Slots
+pub mod Clearing
 pub mod Judged

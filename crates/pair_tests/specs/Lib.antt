@@ -1,4 +1,1 @@
-pub mod Tests
-pub mod Rows
-pub mod Stepwise
-pub mod Clear
+pub mod Methods

@@ -1,12 +1,16 @@
-// The tests of the rules of the tables, 10 to 25: each of one pair of numbers, and what is asked before any search. What they mean is specs/.
+//! The rules of pairs, 10 to 25: each asks one pair of domains, classes or methods, as `meaning` does.
 #![tactic(auto)]
 
-mod clear;
-mod direct;
-mod rule;
-mod tests;
+mod classes;
+mod domains;
+mod methods;
+mod overriding;
+mod slots;
+mod together;
 
-pub use clear::{all_clear, some_mutual};
-pub use direct::clears;
-pub use rule::{breaks, breaks_some};
-pub use tests::differ;
+pub use classes::{DistrustedSubtype, LostSuspicion};
+pub use domains::MutualDominance;
+pub use methods::{method, types_differ};
+pub use overriding::{DistrustingOverride, OverriddenParameter, OverriddenResult};
+pub use slots::{SlotDeclaredTwice, SlotTypesDiffer};
+pub use together::AnyOfOneSlot;

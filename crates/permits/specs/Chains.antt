@@ -1,36 +1,20 @@
--- A package's effects as chains: effects of one method and one op are a group; the first one of each group, and behind each effect the next one
--- of its group.
+-- A package's effects as chains: those of one method and one operation are a group, and each leads to the one before it.
 -- Assumes nothing.
-use Rattle.std.specs.Prelude.{ℕ, suc, ◌+◌, ◌*◌, ◌%◌, ◌≡◌, cond, List, [], ◌∷◌, ◌++◌, map, eqb}
-use Rattle.meaning.specs.Tables.{Package, Effect}
-use Rattle.meaning.specs.Good.{Good}
-use Rattle.tables.specs.Pack.{pad}
-use Rattle.bits.specs.Rows.{listed}
+use Rattle.std.specs.Prelude.{ℕ, zero, suc, ◌+◌, ◌*◌, cond, eqb, Option, Some, None, List, get_or}
+use Rattle.tables.specs.declared.elements.Effect.{Effect}
+use Rattle.tables.specs.declared.elements.Operation.TheVariants.{New}
+use Rattle.tables.specs.View.{operation_number}
 
-unfoldable pub group : ℕ → ℕ → ℕ
-group m op = m * 8 + op % 8
+abbrev pub group : ℕ → ℕ → ℕ
+group method operation = method * 8 + operation
 
 abbrev pub group_of : Effect → ℕ
-group_of e = group e.method e.op
+group_of e = group e.method (operation_number e.operation)
 
--- the number of the first effect of the group g among es, which are the effects from i on; 1024 where there is none
-unfoldable pub first_from : ℕ → List Effect → ℕ → ℕ
-first_from i [] g = 1024
-first_from i (e ∷ es) g = cond (eqb (group_of e) g) i (first_from (suc i) es g)
+abbrev pub no_effect : Effect
+no_effect = record { method = 0; operation = New; number = 0 }
 
--- behind each effect the next one of its group
-unfoldable pub nexts_from : ℕ → List Effect → List ℕ
-nexts_from i [] = []
-nexts_from i (e ∷ es) = first_from (suc i) es (group_of e) ∷ nexts_from (suc i) es
-
-abbrev pub named : Effect → ℕ
-named e = e.number
-
--- the first one of each group, the next one behind each effect, and the number that each effect names
-unfoldable pub chains_of : List Effect → List ℕ
-chains_of es = listed 2048 (first_from 0 es) ++ (pad 1024 1024 (nexts_from 0 es) ++ pad 1024 1024 (map named es))
-
--- these are a package's own
-pub record Chained (P : Package) (effects : List ℕ) : Type 0 where
-  pub good : Good P
-  pub are : effects ≡ chains_of P.effects
+-- the place of the last effect of a group among the first n
+unfoldable pub newest_of : List Effect → ℕ → ℕ → Option ℕ
+newest_of es g zero = None
+newest_of es g (suc n) = cond (eqb (group_of (get_or es n no_effect)) g) (Some n) (newest_of es g n)

@@ -1,2 +1,3 @@
-pub mod Fields
 pub mod Chains
+pub mod Chained
+pub mod Wanted

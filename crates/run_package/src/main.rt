@@ -1,4 +1,4 @@
-// run: reads a package and a run text from standard input, and prints the answer and the holdings.
+//! run: reads a package and a run text from standard input, and prints the answer and the holdings.
 #![tactic(auto)]
 
 use std::io::{self, Read, Write};

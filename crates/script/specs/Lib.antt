@@ -1,3 +1,4 @@
-pub mod Sections
-pub mod Lists
-pub mod Answers
+pub mod Steps
+pub mod Start
+pub mod Taking
+pub mod Readings

@@ -1,11 +1,21 @@
--- What every function behind the reader asks of the tables: they are the one value that means their package, and the package is good.
+-- What the fields of the tables hold, and what is true of them: the package is good.
 -- Assumes nothing.
-use Rattle.std.specs.Prelude.{◌≡◌}
 use Rattle.meaning.specs.Good.{Good}
-use Rattle.tables.specs.declared.Tables.{Tables}
+use Rattle.tables.specs.declared.held.Tables.TheInside.{Inside}
+use Rattle.tables.specs.Contents.{Contents}
 use Rattle.tables.specs.View.{view}
-use Rattle.tables.specs.Pack.{pack}
 
-pub record Held (t : Tables) : Type 0 where
-  pub packed : t ≡ pack (view t)
-  pub good : Good (view t)
+abbrev pub contents_of : Inside → Contents
+contents_of t =
+    record {
+      generation = t.generation;
+      domains = t.domains;
+      pairs = t.pairs;
+      classes = t.classes;
+      fields = t.fields;
+      methods = t.methods;
+      effects = t.effects;
+    }
+
+abbrev pub IsGood : Inside → Type 0
+IsGood t = Good (view (contents_of t))

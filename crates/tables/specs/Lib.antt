@@ -1,3 +1,4 @@
+pub mod Contents
 pub mod View
-pub mod Pack
 pub mod Held
+pub mod Bytes

@@ -1,77 +1,72 @@
--- What the tables mean: the first n elements of each array are `meaning`'s list. Behind a count stands the zero element, so that
--- tables with one meaning are one value.
+-- What the tables mean: the package of `meaning`, element by element.
 -- Assumes nothing.
-use Rattle.std.specs.Prelude.{List, map, take, replicate}
+use Rattle.std.specs.Prelude.{ℕ, Option, Some, None, map, take}
 use Rattle.meaning.specs.Tables.{Package}
 use Rattle.meaning.specs.Tables as M
-use Rattle.tables.specs.declared.Pair.{Pair}
-use Rattle.tables.specs.declared.Class.{Class}
-use Rattle.tables.specs.declared.Field.{Field}
-use Rattle.tables.specs.declared.Method.{Method}
-use Rattle.tables.specs.declared.Effect.{Effect}
-use Rattle.tables.specs.declared.Pairs.{Pairs}
-use Rattle.tables.specs.declared.Classes.{Classes}
-use Rattle.tables.specs.declared.Fields.{Fields}
-use Rattle.tables.specs.declared.Methods.{Methods}
-use Rattle.tables.specs.declared.Effects.{Effects}
-use Rattle.tables.specs.declared.Tables.{Tables}
+use Rattle.tables.specs.declared.elements.Pair.{Pair}
+use Rattle.tables.specs.declared.elements.Class.{Class}
+use Rattle.tables.specs.declared.elements.Mode.{Mode}
+use Rattle.tables.specs.declared.elements.Mode.TheVariants.{Instance, Static}
+use Rattle.tables.specs.declared.elements.Field.{Field}
+use Rattle.tables.specs.declared.elements.Method.{Method}
+use Rattle.tables.specs.declared.elements.Operation.{Operation}
+use Rattle.tables.specs.declared.elements.Operation.TheVariants.{New, CheckCast, GetStatic, PutStatic, GetField, PutField, InvokeStatic, InvokeMethod}
+use Rattle.tables.specs.declared.elements.Effect.{Effect}
+use Rattle.tables.specs.Contents.{Contents}
+
+-- 00 instance, 01 static
+abbrev pub mode_number : Mode → ℕ
+mode_number Instance = 0
+mode_number Static = 1
+
+-- the byte of an operation in an effect's frame
+abbrev pub operation_number : Operation → ℕ
+operation_number New = 0
+operation_number CheckCast = 1
+operation_number GetStatic = 2
+operation_number PutStatic = 3
+operation_number GetField = 4
+operation_number PutField = 5
+operation_number InvokeStatic = 6
+operation_number InvokeMethod = 7
+
+-- a method without a return type has FF in its frame
+abbrev pub result_byte : Option ℕ → ℕ
+result_byte None = 0xFF
+result_byte (Some class) = class
 
 abbrev pub pair_view : Pair → M.Pair
 pair_view x = record { low = x.low; high = x.high }
 
 abbrev pub class_view : Class → M.Class
-class_view x = record { domain = x.domain; supers = take x.k x.supers }
+class_view x = record { domain = x.domain; supers = take x.supertype_count x.supertypes }
 
 abbrev pub field_view : Field → M.Field
-field_view x = record { class = x.class; type = x.typ; static = x.stat }
+field_view x = record { class = x.class; type = x.typ; static = mode_number x.mode }
 
 abbrev pub method_view : Method → M.Method
-method_view x = record { class = x.class; label = x.label; static = x.stat; slot = x.slot; result = x.result; params = take x.k x.params }
+method_view x =
+    record {
+      class = x.class;
+      label = x.label;
+      static = mode_number x.mode;
+      slot = x.slot;
+      result = result_byte x.result;
+      params = take x.parameter_count x.parameters;
+    }
 
 abbrev pub effect_view : Effect → M.Effect
-effect_view x = record { method = x.method; op = x.op; number = x.number }
+effect_view x = record { method = x.method; op = operation_number x.operation; number = x.number }
 
-unfoldable pub pairs_view : Pairs → List M.Pair
-pairs_view x = map pair_view (take x.n x.at)
-
-unfoldable pub classes_view : Classes → List M.Class
-classes_view x = map class_view (take x.n x.at)
-
-unfoldable pub fields_view : Fields → List M.Field
-fields_view x = map field_view (take x.n x.at)
-
-unfoldable pub methods_view : Methods → List M.Method
-methods_view x = map method_view (take x.n x.at)
-
-unfoldable pub effects_view : Effects → List M.Effect
-effects_view x = map effect_view (take x.n x.at)
-
--- the tables as `meaning`'s package
-unfoldable pub view : Tables → Package
+-- the package that the tables hold
+abbrev pub view : Contents → Package
 view t =
     record {
       generation = t.generation;
       domains = t.domains;
-      pairs = pairs_view t.pairs;
-      classes = classes_view t.classes;
-      fields = fields_view t.fields;
-      methods = methods_view t.methods;
-      effects = effects_view t.effects;
+      pairs = map pair_view t.pairs;
+      classes = map class_view t.classes;
+      fields = map field_view t.fields;
+      methods = map method_view t.methods;
+      effects = map effect_view t.effects;
     }
-
--- ---- the zero elements
-
-abbrev pub zero_pair : Pair
-zero_pair = record { low = 0; high = 0 }
-
-abbrev pub zero_class : Class
-zero_class = record { domain = 0; k = 0; supers = replicate 4 0 }
-
-abbrev pub zero_field : Field
-zero_field = record { class = 0; typ = 0; stat = 0 }
-
-abbrev pub zero_method : Method
-zero_method = record { class = 0; label = 0; stat = 0; slot = 0; result = 0; k = 0; params = replicate 6 0 }
-
-abbrev pub zero_effect : Effect
-zero_effect = record { method = 0; op = 0; number = 0 }

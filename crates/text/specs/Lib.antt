@@ -1,3 +1,5 @@
-pub mod Fits
-pub mod Scan
-pub mod Values
+pub mod Digits
+pub mod Frames
+pub mod Kinds
+pub mod Reading
+pub mod Cutting

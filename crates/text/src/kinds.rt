@@ -1,137 +1,39 @@
-// The table of frame kinds, for both texts.
+//! The kinds of frames, as one table for both texts.
+ghost use Rattle.std.specs.Prelude.{◌≡◌};
+ghost use Rattle.meaning.specs.Kinds.{row_of};
+ghost use Rattle.text.specs.Kinds.{kind_in};
 
-// A kind's section, its length without counted bytes, and the place of its count byte, 0 for none. A number that is no kind has zeros.
-#[derive(Clone, Copy)]
+/// A kind's section, its length without counted bytes, and the place of its count byte, or 0 where it has none.
+#[derive(Clone, Copy, Debug, PartialEq, Eq)]
 pub struct Kind {
     pub section: u8,
-    pub size: u8,
+    pub length: u8,
     pub counter: u8,
 }
 
-pub(crate) const NONE: Kind = Kind {
-    section: 0,
-    size: 0,
-    counter: 0,
-};
+// A row of the table.
+macro_rules! kind {
+    ($section:expr, $length:expr, $counter:expr) => {
+        Kind {
+            section: $section,
+            length: $length,
+            counter: $counter,
+        }
+    };
+}
 
-// 02 EE DD
-pub(crate) const PAIR: Kind = Kind {
-    section: 0x02,
-    size: 3,
-    counter: 0,
-};
-
-// 03 dd k s..
-pub(crate) const CLASS: Kind = Kind {
-    section: 0x03,
-    size: 3,
-    counter: 2,
-};
-
-// 04 cc tt ss
-pub(crate) const FIELD: Kind = Kind {
-    section: 0x04,
-    size: 4,
-    counter: 0,
-};
-
-// 05 cc ll ss hh hh rr k p..
-pub(crate) const METHOD: Kind = Kind {
-    section: 0x05,
-    size: 8,
-    counter: 7,
-};
-
-// 06 mm op xx
-pub(crate) const EFFECT: Kind = Kind {
-    section: 0x06,
-    size: 4,
-    counter: 0,
-};
-
-// 11 rr cc
-pub(crate) const OBJECT: Kind = Kind {
-    section: 0x11,
-    size: 3,
-    counter: 0,
-};
-
-// 12 cc tt qq
-pub(crate) const STATIC_LINK: Kind = Kind {
-    section: 0x12,
-    size: 4,
-    counter: 0,
-};
-
-// 13 pp cc tt qq
-pub(crate) const OBJECT_LINK: Kind = Kind {
-    section: 0x13,
-    size: 5,
-    counter: 0,
-};
-
-// 14 rr cc
-pub(crate) const LABEL: Kind = Kind {
-    section: 0x14,
-    size: 3,
-    counter: 0,
-};
-
-// 20 rr bb to 22, and 23 ff qq and 24
-pub(crate) const STEP: Kind = Kind {
-    section: 0x20,
-    size: 3,
-    counter: 0,
-};
-
-// 25 ff pp qq, and 26
-pub(crate) const FIELD_STEP: Kind = Kind {
-    section: 0x20,
-    size: 4,
-    counter: 0,
-};
-
-// 27 nn k r..
-pub(crate) const STATIC_CALL: Kind = Kind {
-    section: 0x20,
-    size: 3,
-    counter: 2,
-};
-
-// 28 nn vv r0 k r..
-pub(crate) const METHOD_CALL: Kind = Kind {
-    section: 0x20,
-    size: 5,
-    counter: 4,
-};
-
-// 29 rr
-pub(crate) const RETURN: Kind = Kind {
-    section: 0x20,
-    size: 2,
-    counter: 0,
-};
+const NONE: Kind = kind!(0, 0, 0);
 
 // At each kind's own number.
-pub(crate) const KINDS: [Kind; 48] = [
+static KINDS: [Kind; 48] = [
     NONE,
-    // 01 02 nd
-    Kind {
-        section: 0x01,
-        size: 3,
-        counter: 0,
-    },
-    PAIR,
-    CLASS,
-    FIELD,
-    METHOD,
-    EFFECT,
-    // 07
-    Kind {
-        section: 0x07,
-        size: 1,
-        counter: 0,
-    },
+    kind!(0x01, 3, 0), // 01 02 nd
+    kind!(0x02, 3, 0), // 02 EE DD
+    kind!(0x03, 3, 2), // 03 dd k s..
+    kind!(0x04, 4, 0), // 04 cc tt ss
+    kind!(0x05, 8, 7), // 05 cc ll ss hh hh rr k p..
+    kind!(0x06, 4, 0), // 06 mm op xx
+    kind!(0x07, 1, 0), // 07
     NONE,
     NONE,
     NONE,
@@ -140,16 +42,11 @@ pub(crate) const KINDS: [Kind; 48] = [
     NONE,
     NONE,
     NONE,
-    // 10 mm
-    Kind {
-        section: 0x10,
-        size: 2,
-        counter: 0,
-    },
-    OBJECT,
-    STATIC_LINK,
-    OBJECT_LINK,
-    LABEL,
+    kind!(0x10, 2, 0), // 10 mm
+    kind!(0x11, 3, 0), // 11 rr cc
+    kind!(0x12, 4, 0), // 12 cc tt qq
+    kind!(0x13, 5, 0), // 13 pp cc tt qq
+    kind!(0x14, 3, 0), // 14 rr cc
     NONE,
     NONE,
     NONE,
@@ -161,25 +58,35 @@ pub(crate) const KINDS: [Kind; 48] = [
     NONE,
     NONE,
     NONE,
-    STEP,
-    STEP,
-    STEP,
-    STEP,
-    STEP,
-    FIELD_STEP,
-    FIELD_STEP,
-    STATIC_CALL,
-    METHOD_CALL,
-    RETURN,
+    kind!(0x20, 3, 0), // 20 rr bb
+    kind!(0x20, 3, 0), // 21 rr bb
+    kind!(0x20, 3, 0), // 22 rr bb
+    kind!(0x20, 3, 0), // 23 ff qq
+    kind!(0x20, 3, 0), // 24 ff qq
+    kind!(0x20, 4, 0), // 25 ff pp qq
+    kind!(0x20, 4, 0), // 26 ff pp qq
+    kind!(0x20, 3, 2), // 27 nn k r..
+    kind!(0x20, 5, 4), // 28 nn vv r0 k r..
+    kind!(0x20, 2, 0), // 29 rr
     NONE,
     NONE,
     NONE,
     NONE,
     NONE,
-    // 2F
-    Kind {
-        section: 0x2F,
-        size: 1,
-        counter: 0,
-    },
+    kind!(0x2F, 1, 0), // 2F
 ];
+
+impl Kind {
+    /// The row of a number. One that is no kind has a section and a length of 0.
+    pub fn of(number: u8) -> Self
+        ensures { result ≡ kind_in (row_of number) }
+    {
+        // not by `get`: the option packs and unpacks the row, 7 instructions a line
+        let place = usize::from(number);
+        if place < KINDS.len() {
+            KINDS[place]
+        } else {
+            NONE
+        }
+    }
+}

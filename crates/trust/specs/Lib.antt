@@ -1,3 +1,5 @@
 pub mod Relations
-pub mod Closing
-pub mod Filling
+pub mod Turns
+pub mod Homes
+pub mod Known
+pub mod Below

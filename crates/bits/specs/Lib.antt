@@ -1,3 +1,0 @@
-pub mod Bit
-pub mod Rows
-pub mod Fold

@@ -1,0 +1,11 @@
+use Rattle.std.proofs.Common.{arith}
+use Rattle.std.proofs.lemmas.Grind.{common_steps}
+use Rattle.tables.specs.View.{view}
+use Rattle.effect_rules.proofs.Laws.{invocation}
+use Rattle.effect_rules.proofs.site.Site.breaks_invocation.Goals as goal
+
+pub returns-in-CalledStatic : goal.returns-in-CalledStatic
+returns-in-CalledStatic c = λ second. let s = c.args.self.now in grind (arith, common_steps, invocation (view s.trust.now) s.number s.does second)
+
+pub returns-in-Created : goal.returns-in-Created
+returns-in-Created c = λ second. let s = c.args.self.now in grind (arith, common_steps, invocation (view s.trust.now) s.number s.does second)

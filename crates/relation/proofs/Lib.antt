@@ -1,0 +1,3 @@
+pub mod BitLaws
+pub mod RowLaws
+pub mod Closure

@@ -1,0 +1,4 @@
+pub mod Bit
+pub mod Rows
+pub mod Fold
+pub mod Closing

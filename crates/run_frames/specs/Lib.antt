@@ -1,4 +1,0 @@
-pub mod Judging
-pub mod Elements
-pub mod Pools
-pub mod Declares

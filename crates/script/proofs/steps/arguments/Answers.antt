@@ -1,0 +1,5 @@
+use Rattle.script.proofs.Calls.{arguments-few}
+use Rattle.script.proofs.steps.arguments.Goals as goal
+
+pub returns-then-count-le6 : goal.returns-then-count-le6
+returns-then-count-le6 c = arguments-few _ _ _

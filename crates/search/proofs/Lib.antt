@@ -1,0 +1,5 @@
+pub mod Finding
+pub mod Walking
+pub mod Lows
+pub mod Starts
+pub mod Filling

@@ -1,3 +1,0 @@
-pub mod View
-pub mod Fine
-pub mod Pools

@@ -1,0 +1,8 @@
+use Rattle.std.proofs.Common.{◌≡◌}
+use Rattle.tables.specs.View.{view}
+use Rattle.relation.specs.Fold.{up_to}
+use Rattle.trust.specs.Turns.{spread_at}
+use Rattle.trust.proofs.suspicion.spread.Given as goal
+
+abbrev pub invariant-loop-number : goal.invariant-loop-number
+invariant-loop-number l = l.rows ≡ up_to l.number (spread_at (view l.tables) l.found) l.initial.rows

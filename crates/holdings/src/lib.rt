@@ -20,7 +20,7 @@ pub fn write_holdings(state: &State, tables: &Tables, out: &mut [u8]) -> usize
     ensures text { Put (holdings_text (view tables.now) (state_view state.now)) out.old result out.new }
     ensures within { result ≤ 7200 }
 {
-    let mut keys = Counted::new(0);
+    let mut keys = Counted::new();
     keys::add_all(&mut keys, tables, state);
     keys.sort();
     lines::write_lines(keys.as_slice(), out)

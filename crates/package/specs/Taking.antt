@@ -6,8 +6,9 @@ use Rattle.text.specs.Kinds.{fits_frame}
 use Rattle.sections.specs.declared.refusal.Refusal.{Refusal}
 use Rattle.sections.specs.declared.refusal.Refusal.TheVariants.{BadLength, BadNumber, TooMany}
 
+-- what is taken, where there are n elements before it, or why it is not
+abbrev pub judge : {A : Type 0} → (limit n : ℕ) → Bool → Frame → A → Result A Refusal
+judge limit n declared f more = cond (ltb n limit) (cond (fits_frame f) (cond declared (Ok more) (Err BadNumber)) (Err BadLength)) (Err TooMany)
+
 abbrev pub taken : {E : Type 0} → ℕ → Bool → E → List E → Frame → Result (List E) Refusal
-taken limit declared e elements f =
-    cond (ltb (length elements) limit)
-    (cond (fits_frame f) (cond declared (Ok (elements ++ (e ∷ []))) (Err BadNumber)) (Err BadLength))
-    (Err TooMany)
+taken limit declared e elements f = judge limit (length elements) declared f (elements ++ (e ∷ []))

@@ -5,12 +5,12 @@ ghost use Rattle.package.specs.declared.earlier.Earlier.{Earlier};
 ghost use Rattle.package.specs.Taking.{taken};
 
 use crate::Earlier;
-use counted::Counted;
+use counted::{Counted, Filler};
 use sections::{Refusal, Section};
 use text::Frame;
 
 /// An element that a frame stands for, where each number in the frame is declared.
-pub trait Element: Copy {
+pub trait Element: Filler {
     /// The kind of the frames that stand for such elements, and the section of that kind.
     const KIND: u8;
 

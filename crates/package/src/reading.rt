@@ -8,7 +8,7 @@ ghost use Rattle.tables.specs.View.{view};
 use crate::Earlier;
 use counted::Counted;
 use sections::{Refusal, Refused, next_frame, read_end, read_section};
-use tables::{Class, Effect, Field, Method, Mode, Operation, Pair, Tables};
+use tables::{Class, Effect, Field, Method, Pair, Tables};
 use text::Lines;
 
 // No text is longer.
@@ -36,10 +36,11 @@ fn read_header(lines: &mut Lines) -> Result<u8, Refused>
     Ok(domains)
 }
 
-#[inline(always)]
-#[tactic(auto, unfolding(crate::specs::Readings::read_sections))]
-fn read_sections(text: &[u8]) -> Result<Tables, Refused>
-    ensures { MatchResult result (λ tables. read_sections text.now ≡ Ok tables) (λ refused. read_sections text.now ≡ Err refused) }
+/// The tables of a package text; or why it is refused, and at which line: its first line that breaks a rule.
+#[tactic(auto, using(crate::proofs::Whole::whole), unfolding(crate::specs::Readings::read_sections))]
+pub fn read(text: &[u8]) -> Result<Tables, Refused>
+    ensures meaning { MatchResult result (λ tables. read_text text.now ≡ is_read (view tables)) (λ refused. read_text text.now ≡ is_refused (answer (number_of refused.refusal) refused.line 0)) }
+    ensures exact { MatchResult result (λ tables. read_sections text.now ≡ Ok tables) (λ refused. read_sections text.now ≡ Err refused) }
 {
     if LONGEST < text.len() {
         return Err(Refused {
@@ -55,54 +56,25 @@ fn read_sections(text: &[u8]) -> Result<Tables, Refused>
         fields: &[],
         methods: &[],
     };
-    let mut pairs = Counted::new(Pair { low: 0, high: 0 });
+    let mut pairs: Counted<Pair, 128> = Counted::new();
     read_section(&mut lines, &mut pairs, &header)?;
-    let mut classes = Counted::new(Class {
-        domain: 0,
-        supertype_count: 0,
-        supertypes: [0; 4],
-    });
+    let mut classes: Counted<Class, 127> = Counted::new();
     read_section(&mut lines, &mut classes, &header)?;
     let with_classes = Earlier {
         classes: classes.len(),
         ..header
     };
-    let mut fields = Counted::new(Field {
-        class: 0,
-        typ: 0,
-        mode: Mode::Instance,
-    });
+    let mut fields: Counted<Field, 256> = Counted::new();
     read_section(&mut lines, &mut fields, &with_classes)?;
-    let mut methods = Counted::new(Method {
-        class: 0,
-        label: 0,
-        slot: 0,
-        result: None,
-        mode: Mode::Instance,
-        parameter_count: 0,
-        parameters: [0; 6],
-    });
+    let mut methods: Counted<Method, 256> = Counted::new();
     read_section(&mut lines, &mut methods, &with_classes)?;
     let with_members = Earlier {
         fields: fields.as_slice(),
         methods: methods.as_slice(),
         ..with_classes
     };
-    let mut effects = Counted::new(Effect {
-        method: 0,
-        operation: Operation::New,
-        number: 0,
-    });
+    let mut effects: Counted<Effect, 1024> = Counted::new();
     read_section(&mut lines, &mut effects, &with_members)?;
     read_end(&mut lines, 7)?;
     Ok(Tables::new(2, domains, pairs, classes, fields, methods, effects))
-}
-
-/// The tables of a package text; or why it is refused, and at which line: its first line that breaks a rule.
-#[tactic(auto, using(crate::proofs::Whole::whole))]
-pub fn read(text: &[u8]) -> Result<Tables, Refused>
-    ensures meaning { MatchResult result (λ tables. read_text text.now ≡ is_read (view tables)) (λ refused. read_text text.now ≡ is_refused (answer (number_of refused.refusal) refused.line 0)) }
-    ensures exact { MatchResult result (λ tables. read_sections text.now ≡ Ok tables) (λ refused. read_sections text.now ≡ Err refused) }
-{
-    read_sections(text)
 }

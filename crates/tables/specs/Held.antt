@@ -17,5 +17,18 @@ contents_of t =
       effects = t.effects;
     }
 
+-- tables with one content are one value: no place of theirs is left open
+abbrev pub inside_of : Contents → Inside
+inside_of t =
+    record {
+      generation = t.generation;
+      domains = t.domains;
+      pairs = t.pairs;
+      classes = t.classes;
+      fields = t.fields;
+      methods = t.methods;
+      effects = t.effects;
+    }
+
 abbrev pub IsGood : Inside → Type 0
 IsGood t = Good (view (contents_of t))

@@ -9,7 +9,7 @@ use crate::elements::{Class, Effect, Field, Method, Pair};
 use counted::Counted;
 use std::marker::Model;
 
-#[derive(Drop)]
+#[derive(Clone, Copy)]
 pub struct Tables {
     generation: u8,
     domains: u8,
@@ -25,11 +25,13 @@ impl Model for Tables {
 
     ghost Value = { Contents };
 
-    ghost use Rattle.tables.specs.Held.{contents_of, IsGood};
+    ghost use Rattle.tables.specs.Held.{contents_of, inside_of, IsGood};
 
     ghost view = { contents_of };
 
     ghost invariant = { IsGood };
+
+    ghost inverse = { inside_of };
 }
 
 impl Tables {

@@ -3,6 +3,7 @@
 
 mod bytes;
 mod elements;
+mod fillers;
 mod held;
 
 pub use bytes::UnknownByte;

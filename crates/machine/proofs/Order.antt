@@ -1,9 +1,12 @@
 -- The order of the objects in a pool does not matter: a state and the one with its objects in rising order have one snapshot, and so
 -- one outcome of each step.
 -- Assumes nothing.
-use Rattle.std.proofs.Common.{◌≡◌, ℕ, suc, ◌-◌, ◌≤◌, Option, Some, None, List, [], ◌∷◌, ◌++◌, map, length, fold, get_or, set, replicate, refl, sym, ap, ap₂, ◌∙◌, arith, append_assoc}
+use Rattle.std.proofs.Common.{◌≡◌, ℕ, suc, ◌-◌, ◌<◌, ◌≤◌, Option, Some, None, List, [], ◌∷◌, ◌++◌, map, length, fold, get_or, set, replicate, refl, sym, ap, ap₂, subst, ◌∙◌, arith, append_assoc, true≢false}
 use Rattle.std.proofs.lemmas.List.{length-set, length-replicate}
 use mathlib.Core.Logic.{inl, inr}
+use native.Mathlib.Decide.{dec_lt}
+use lib.ListN.{get_or-eq_default}
+use Rattle.std.specs.Prelude.{is_none}
 use mathlib.Core.List.Memᴰ
 use Rattle.meaning.specs.Lists.{In}
 use Rattle.meaning.specs.Tables.{Package}
@@ -57,7 +60,7 @@ refill (class ∷ rest) front n e = on class (λ x. refill rest (front ++ (x ∷
         (ap (λ (k : ℕ). set (front ++ (None ∷ replicate (length rest) None)) k (Some c)) e ∙ set-behind front None (Some c) (replicate (length rest) None))
         ∙ joined (Some c) (later (Some c))
 
-refilled : (pool : List (Option ℕ)) → length pool ≡ 256 → pool_from (objects_from 0 pool) ≡ pool
+pub refilled : (pool : List (Option ℕ)) → length pool ≡ 256 → pool_from (objects_from 0 pool) ≡ pool
 unfolding nobody
 refilled pool e =
     ap (λ (n : ℕ). fold with_class (replicate {A = Option ℕ} n None) (objects_from 0 pool)) (sym e)
@@ -97,6 +100,20 @@ placed (class ∷ pool) n o m = on class m (λ m'. placed pool (suc n) o m')
         → (n ≤ o.ref) × (get_or (x ∷ pool) (o.ref - n) None ≡ Some o.class)
     on None m later = further None (later m)
     on (Some c) m later = elim (Memᴰ.cases_cons m) [ inl e ↦ here c e | inr m' ↦ further (Some c) (later m') ]
+
+-- so its number is one of the pool's
+pub small-rising : (pool : List (Option ℕ)) (o : M.Object) → In o (objects_from 0 pool) → o.ref < length pool
+unfolding Placed
+small-rising pool o m = on (dec_lt o.ref (length pool))
+  where
+    there : get_or pool o.ref None ≡ Some o.class
+    there =
+        let first : o.ref - 0 ≡ o.ref = omega arith in
+        subst (λ (k : ℕ). get_or pool k None ≡ Some o.class) first (placed pool 0 o m).1
+
+    on : Dec (o.ref < length pool) → o.ref < length pool
+    on (yes h) = h
+    on (no n) = absurd (true≢false (ap is_none (sym (get_or-eq_default pool None (omega (arith, n))) ∙ there)))
 
 pub once-rising : (pool : List (Option ℕ)) → Once (objects_from 0 pool)
 unfolding Placed

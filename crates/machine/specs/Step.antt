@@ -34,6 +34,10 @@ step_view (Return value) = M.return (value_number value)
 abbrev pub placed_view : Placed → R.Placed
 placed_view k = record { line = k.line; step = step_view k.step }
 
+-- what stands where no step was read
+abbrev pub no_step : Placed
+no_step = record { line = 0; step = Return None }
+
 -- the effect that a step needs
 abbrev pub need_of : Step → Option Need
 need_of (Widen object class) = None

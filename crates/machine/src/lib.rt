@@ -12,11 +12,11 @@ mod run;
 mod state;
 mod step;
 
-pub use arguments::Arguments;
+pub use arguments::{ARGUMENTS, Arguments};
 pub use label::Label;
 pub use link::{Link, NO_OWNER};
 pub use loaded::Loaded;
 pub use refusal::Refusal;
 pub use run::{Report, Stopped};
-pub use state::State;
+pub use state::{FRAME_LABELS, LINKS, SAVED_FRAMES, State, has_room};
 pub use step::{Need, Placed, Step};

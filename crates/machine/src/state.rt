@@ -1,12 +1,13 @@
 //! The run state: flat arrays with their counts, seen as the lists that they hold.
 
-ghost use Rattle.std.specs.Prelude.{◌≡◌, ◌++◌, ◌∷◌, [], ◌+◌, ◌*◌, ◌<◌, ◌≤◌, length, slice_index_or, OnErr, IsTrue};
+ghost use Rattle.std.specs.Prelude.{◌≡◌, ◌++◌, ◌∷◌, [], ◌+◌, ◌*◌, ◌<◌, ◌≤◌, length, slice_index_or, OnErr, IsTrue, ⊤};
 ghost use Rattle.machine.specs.Snapshot.{empty, no_frame, holds, sees, is_linked, class_at, has_room, has_link_room, add_label, insert_link, label_of, join, connect, declared, with_object, called, resumed, pending_in, outcome_of};
-ghost use Rattle.machine.specs.Frame.{frame_at};
+ghost use Rattle.machine.specs.Frame.{frame_at, cleared};
 
 use crate::label::Label;
 use crate::link::Link;
 use crate::refusal::Refusal;
+use std::alloc::AllocError;
 use std::marker::Model;
 
 /// How many numbers there are for objects.
@@ -50,8 +51,22 @@ fn frame(labels: &[Label], depth: usize, count: usize) -> &[Label]
     &labels[start..end]
 }
 
-/// What a run holds. The frame at a depth has its own `FRAME_LABELS` places, so that a call and a return move none.
-#[derive(Drop)]
+/// The frame at a depth has no label any more. All its places are written, which is one copy of 64 bytes.
+fn clear(labels: &mut [Label; LABELS], depth: usize)
+    requires { depth ≤ SAVED_FRAMES }
+    ensures { labels.new ≡ cleared labels.old depth }
+{
+    let nothing = [Label {
+        object: 0,
+        class: 0,
+    }; FRAME_LABELS];
+    let start = FRAME_LABELS * depth;
+    labels[start..start + FRAME_LABELS].copy_from_slice(&nothing);
+}
+
+/// What a run holds. The frame at a depth has its own `FRAME_LABELS` places, so that a call and a return move none. Behind the counts stand zeros, so
+/// that a state is what it holds and no more: it can be copied, and of two states that hold the same both are one value.
+#[derive(Copy)]
 pub struct State {
     pool: [Option<u8>; OBJECTS],
     links: [Link; LINKS],
@@ -68,11 +83,26 @@ impl Model for State {
 
     ghost Value = { Snapshot };
 
-    ghost use Rattle.machine.specs.StateView.{snapshot_of, IsWithinLimits};
+    ghost use Rattle.machine.specs.StateView.{snapshot_of, inside_of, IsWithinLimits};
 
     ghost view = { snapshot_of };
 
     ghost invariant = { IsWithinLimits };
+
+    ghost inverse = { inside_of };
+
+    ghost inverse_ok = { λ s within. within.whole };
+}
+
+// By hand, so that its contract says that the clone is the state, and that there is one.
+impl Clone for State {
+    ghost is_clone = { λ x y. y ≡ x };
+
+    ghost is_infallible = { λ _. ⊤ };
+
+    fn clone(&self) -> Result<State, AllocError> {
+        Ok(*self)
+    }
 }
 
 #[tactic(auto, using(crate::proofs::Changes::changes))]
@@ -151,6 +181,14 @@ impl State {
     {
         let depth = self.depth - 1 - place;
         frame(&self.labels, depth, self.saved[depth].label_count)
+    }
+
+    /// What the saved frame at a place waits for, the newest at 0: the class that the call owes it, or nothing.
+    pub fn saved_pending(&self, place: usize) -> Option<u8>
+        requires { place < length self.now.saved }
+        ensures { result ≡ (slice_index_or self.now.saved place no_frame).pending }
+    {
+        self.saved[self.depth - 1 - place].pending
     }
 
     /// The class of the object, if there is one of this number.
@@ -278,8 +316,8 @@ impl State {
         Ok(())
     }
 
-    /// Saves the running frame, and runs a method over an empty one.
-    pub(crate) fn push(&mut self, method: u8, pending: Option<u8>)
+    /// Saves the running frame, which waits for an object of a class or for nothing, and runs a method over an empty one.
+    pub fn push(&mut self, method: u8, pending: Option<u8>)
         requires { length self.old.saved < SAVED_FRAMES }
         ensures { self.new ≡ called self.old method pending }
     {
@@ -317,8 +355,14 @@ impl State {
         requires { 0 < length self.old.saved }
         ensures { self.new ≡ resumed self.old self.old.saved }
     {
+        clear(&mut self.labels, self.depth);
         self.depth -= 1;
         let caller = self.saved[self.depth];
+        self.saved[self.depth] = Saved {
+            method: 0,
+            pending: None,
+            label_count: 0,
+        };
         self.label_count = caller.label_count;
         self.method = caller.method;
     }

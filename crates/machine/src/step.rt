@@ -2,9 +2,10 @@
 
 ghost use Rattle.std.specs.Prelude.{◌≡◌};
 ghost use Rattle.machine.specs.Fits.{Fits};
-ghost use Rattle.machine.specs.Step.{need_of};
+ghost use Rattle.machine.specs.Step.{need_of, no_step};
 
 use crate::arguments::Arguments;
+use counted::Filler;
 use tables::Operation;
 
 /// A step. `runs` is the method that runs where `method` is called; a return gives back an object, or nothing.
@@ -88,4 +89,16 @@ impl Step {
 pub struct Placed {
     pub line: u16,
     pub step: Step,
+}
+
+impl Filler for Placed {
+    ghost filler = { no_step };
+
+    #[inline(always)]
+    fn filler() -> Self {
+        Placed {
+            line: 0,
+            step: Step::Return { value: None },
+        }
+    }
 }

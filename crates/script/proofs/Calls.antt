@@ -5,15 +5,15 @@ use Rattle.meaning.specs.Reading.{is_method, is_method_of}
 use Rattle.std.proofs.Common.{true, ◌≡◌, ℕ, ◌≤◌, List, Some, None, ap, refl}
 use Rattle.std.proofs.Math.Bridge.{le_prop}
 use Rattle.std.proofs.Math.Decide.{dec_le}
-use Rattle.script.specs.Steps.{arguments_by, arguments_in}
+use Rattle.script.specs.Steps.{within, places_of, arguments_by, arguments_in}
 
-pub arguments-few : (count : ℕ) (objects : List ℕ) (few : count ≤ 6) → Some (record { count = count; objects = objects; few = few }) ≡ arguments_in count objects
+pub arguments-few : (count : ℕ) (objects : List ℕ) → count ≤ 6 → (few : count ≤ 13) → Some (record { count = count; objects = places_of objects; few = few }) ≡ arguments_in count objects
 unfolding arguments_in
-arguments-few count objects few = on (dec_le count 6)
+arguments-few count objects six few = on (dec_le count 6)
   where
-    on : (d : Dec (count ≤ 6)) → Some (record { count = count; objects = objects; few = few }) ≡ arguments_by count objects d
-    on (yes p) = ap (λ (p : count ≤ 6). Some (record { count = count; objects = objects; few = p })) (le_prop few p)
-    on (no n) = absurd (n few)
+    on : (d : Dec (count ≤ 6)) → Some (record { count = count; objects = places_of objects; few = few }) ≡ arguments_by count objects d
+    on (yes p) = ap (λ (p : count ≤ 13). Some (record { count = count; objects = places_of objects; few = p })) (le_prop few (within p))
+    on (no n) = absurd (n six)
 
 pub arguments-many : (count : ℕ) (objects : List ℕ) → (count ≤ 6 → ⊥) → arguments_in count objects ≡ None
 unfolding arguments_in

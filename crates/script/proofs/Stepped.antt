@@ -29,7 +29,7 @@ use Rattle.machine.specs.declared.step.Step.{Step}
 use Rattle.machine.specs.declared.step.Step.TheVariants.{Widen, New, CheckCast, GetStatic, PutStatic, GetField, PutField, InvokeStatic, InvokeMethod, Return}
 use Rattle.machine.specs.Step.{value_number, step_view, placed_view}
 use Rattle.script.specs.declared.draft.Draft.{Draft}
-use Rattle.script.specs.Steps.{arguments_by, arguments_in, with_arguments, value_in, step_by, step_in, is_named}
+use Rattle.script.specs.Steps.{no_more, places_of, within, arguments_by, arguments_in, with_arguments, value_in, step_by, step_in, is_named}
 use Rattle.script.specs.Taking as T
 use Rattle.script.proofs.Order.{in_section}
 use Rattle.script.proofs.Goes.{Same, taken, refused}
@@ -38,7 +38,7 @@ use Rattle.script.proofs.Taken.{Holds, asked, taken_step}
 -- ---- the arguments, where the length is right
 
 -- six places are enough for a list that is no longer
-six : (xs : List ℕ) → length xs ≤ 6 → take (length xs) (get_or xs 0 0 ∷ get_or xs 1 0 ∷ get_or xs 2 0 ∷ get_or xs 3 0 ∷ get_or xs 4 0 ∷ get_or xs 5 0 ∷ []) ≡ xs
+six : (xs : List ℕ) → length xs ≤ 6 → take (length xs) (get_or xs 0 0 ∷ get_or xs 1 0 ∷ get_or xs 2 0 ∷ get_or xs 3 0 ∷ get_or xs 4 0 ∷ get_or xs 5 0 ∷ no_more) ≡ xs
 six [] h = refl
 six (a ∷ []) h = refl
 six (a ∷ b ∷ []) h = refl
@@ -57,16 +57,16 @@ module _ (f : List ℕ) (i : ℕ) (long : length f ≡ i + 1 + byte f i) (few : 
   counted : length (drop (i + 1) f) ≡ byte f i
   counted = length-drop (i + 1) f ∙ omega (arith, long)
 
-  kept : take (byte f i) (byte f (i + 1 + 0) ∷ byte f (i + 1 + 1) ∷ byte f (i + 1 + 2) ∷ byte f (i + 1 + 3) ∷ byte f (i + 1 + 4) ∷ byte f (i + 1 + 5) ∷ []) ≡ drop (i + 1) f
+  kept : take (byte f i) (byte f (i + 1 + 0) ∷ byte f (i + 1 + 1) ∷ byte f (i + 1 + 2) ∷ byte f (i + 1 + 3) ∷ byte f (i + 1 + 4) ∷ byte f (i + 1 + 5) ∷ no_more) ≡ drop (i + 1) f
   kept =
       let at : (j : ℕ) → byte f (i + 1 + j) ≡ get_or (drop (i + 1) f) j 0 = λ j. sym (get_or-drop (i + 1) f j 0) in
-      (λ k. take (sym counted k) (at 0 k ∷ at 1 k ∷ at 2 k ∷ at 3 k ∷ at 4 k ∷ at 5 k ∷ []))
+      (λ k. take (sym counted k) (at 0 k ∷ at 1 k ∷ at 2 k ∷ at 3 k ∷ at 4 k ∷ at 5 k ∷ no_more))
       ∙ six (drop (i + 1) f) (omega (arith, counted, few))
 
   -- the count and the arguments pass as those that the code keeps
   are-kept : (m : ℕ) → (eqb (byte f i) m && all is_reference (drop (i + 1) f))
-      ≡ (eqb (length (take (byte f i) (byte f (i + 1 + 0) ∷ byte f (i + 1 + 1) ∷ byte f (i + 1 + 2) ∷ byte f (i + 1 + 3) ∷ byte f (i + 1 + 4) ∷ byte f (i + 1 + 5) ∷ []))) m
-      && list_all is_reference (take (byte f i) (byte f (i + 1 + 0) ∷ byte f (i + 1 + 1) ∷ byte f (i + 1 + 2) ∷ byte f (i + 1 + 3) ∷ byte f (i + 1 + 4) ∷ byte f (i + 1 + 5) ∷ [])))
+      ≡ (eqb (length (take (byte f i) (byte f (i + 1 + 0) ∷ byte f (i + 1 + 1) ∷ byte f (i + 1 + 2) ∷ byte f (i + 1 + 3) ∷ byte f (i + 1 + 4) ∷ byte f (i + 1 + 5) ∷ no_more))) m
+      && list_all is_reference (take (byte f i) (byte f (i + 1 + 0) ∷ byte f (i + 1 + 1) ∷ byte f (i + 1 + 2) ∷ byte f (i + 1 + 3) ∷ byte f (i + 1 + 4) ∷ byte f (i + 1 + 5) ∷ no_more)))
   are-kept m =
       (λ k. eqb (sym counted k) m && sym (list_all-is is_reference (drop (i + 1) f)) k)
       ∙ sym (ap (λ (xs : List ℕ). eqb (length xs) m && list_all is_reference xs) kept)
@@ -79,16 +79,23 @@ need-both : {A : Type 0} (k : ℕ) (t : Took A) (a b : Bool) → need a k (need 
 need-both k t true b = refl
 need-both k t false b = refl
 
+-- the step of the bytes that are kept is that of the frame's
+pub step-packed : (f : List ℕ) → step_by (byte f 0) (byte f 1) (byte f 2) (byte f 3) (byte f 4) (byte f 5) (byte f 6) (byte f 7) (byte f 8) (byte f 9) (byte f 10) ≡ step_in (pack_frame f)
+unfolding step_in
+step-packed f = λ i. step_by (k 0 (lit< tt) i) (k 1 (lit< tt) i) (k 2 (lit< tt) i) (k 3 (lit< tt) i) (k 4 (lit< tt) i) (k 5 (lit< tt) i) (k 6 (lit< tt) i) (k 7 (lit< tt) i) (k 8 (lit< tt) i) (k 9 (lit< tt) i) (k 10 (lit< tt) i)
+  where
+    k : (i : ℕ) → i < 16 → byte f i ≡ get_or (pack_frame f).bytes i 0
+    k i h = sym (first-at 16 f i h)
+
 -- ---- one step
 
-module _ (P : Package) (R : Reader) (x : Draft) (h : Holds P R x) (n : ℕ) (line : n < 65536) where
-  abbrev Agrees : Took Reader → Result Draft Refusal → Type 0
-  Agrees = Same P 0x20 (Holds P)
+-- one step more: with which the definition reads on, and which is what the code's means
+pub record OneMore (R : Reader) (x : Draft) (n : ℕ) (Q : Reader) (y : Draft) : Type 0 where
+  pub step : Step
+  pub read : in_section 0x20 Q ≡ with_step R (placed n (step_view step))
+  pub taken : y ≡ T.with_step x (record { line = n; step = step })
 
-  -- the step of the definition, and the code's, or none where its numbers are not declared
-  record Ag (t : Took M.Step) (o : Option Step) : Type 0 where
-    ag : Agrees (place_step (in_section 0x20 R) n t) (T.placed_if P x n o)
-
+module _ (P : Package) (R : Reader) (x : Draft) (h : Holds P R x) (n : ℕ) where
   step-holds : (s : Step) → Holds P (with_step R (placed n (step_view s))) (T.with_step x (record { line = n; step = s }))
   step-holds s =
       record {
@@ -106,12 +113,21 @@ module _ (P : Package) (R : Reader) (x : Draft) (h : Holds P R x) (n : ℕ) (lin
         steps = map-last placed_view x.script.steps (record { line = n; step = s }) ∙ ap (λ (ks : List _). ks ++ (placed n (step_view s) ∷ [])) h.steps;
       }
 
+-- what is taken is H
+module _ (P : Package) (R : Reader) (x : Draft) (n : ℕ) (line : n < 65536) (H : Reader → Draft → Type 0) (more : (s : Step) → H (with_step R (placed n (step_view s))) (T.with_step x (record { line = n; step = s }))) where
+  abbrev Agrees : Took Reader → Result Draft Refusal → Type 0
+  Agrees = Same P 0x20 H
+
+  -- the step of the definition, and the code's, or none where its numbers are not declared
+  record Ag (t : Took M.Step) (o : Option Step) : Type 0 where
+    ag : Agrees (place_step R n t) (T.placed_if P x n o)
+
   leaf : (c : Bool) (k : M.Step) (s : Step) → step_view s ≡ k → c ≡ is_named P s → Ag (need c 57 (takes k)) (Some s)
   leaf c k s v e =
       record {
         ag =
-            subst (λ (k : M.Step). Agrees (place_step (in_section 0x20 R) n (need c 57 (takes k))) (T.placed_if P x n (Some s))) v
-            (subst (λ (d : Bool). Agrees (place_step (in_section 0x20 R) n (need c 57 (takes (step_view s)))) (T.require d BadNumber (Ok (T.with_step x (record { line = n; step = s })))))
+            subst (λ (k : M.Step). Agrees (place_step R n (need c 57 (takes k))) (T.placed_if P x n (Some s))) v
+            (subst (λ (d : Bool). Agrees (place_step R n (need c 57 (takes (step_view s)))) (T.require d BadNumber (Ok (T.with_step x (record { line = n; step = s })))))
             (e ∙ sym (rw (lt-ltb n 65536 line) (and-true (is_named P s))))
             (on c));
       }
@@ -120,8 +136,8 @@ module _ (P : Package) (R : Reader) (x : Draft) (h : Holds P R x) (n : ℕ) (lin
       and-true true = refl
       and-true false = refl
 
-      on : (c : Bool) → Agrees (place_step (in_section 0x20 R) n (need c 57 (takes (step_view s)))) (T.require c BadNumber (Ok (T.with_step x (record { line = n; step = s }))))
-      on true = taken {R = with_step R (placed n (step_view s))} (step-holds s)
+      on : (c : Bool) → Agrees (place_step R n (need c 57 (takes (step_view s)))) (T.require c BadNumber (Ok (T.with_step x (record { line = n; step = s }))))
+      on true = taken {R = with_step R (placed n (step_view s))} (more s)
       on false = refused {r = BadNumber}
 
   none-named : Ag (refuses 57) None
@@ -188,7 +204,7 @@ module _ (P : Package) (R : Reader) (x : Draft) (h : Holds P R x) (n : ℕ) (lin
             let b = eqb (byte f 2) (length (params_of P m)) in
             let d = all is_reference (drop 3 f) in
             alike (ap (need a 57) (need-both 57 _ b d) ∙ need-both 57 _ a (b && d))
-            (leaf _ _ (InvokeStatic m (record { count = byte f 2; objects = objects; few = few })) (ap (M.invokestatic m) (kept f 2 long few)) (ap (λ (b : Bool). a && b) (are-kept f 2 long few (length (params_of P m)))))
+            (leaf _ _ (InvokeStatic m (record { count = byte f 2; objects = places_of objects; few = within few })) (ap (M.invokestatic m) (kept f 2 long few)) (ap (λ (b : Bool). a && b) (are-kept f 2 long few (length (params_of P m)))))
         on (no n) = alike (need-none (is_method_of P m 1) _ _ (many m 1 (byte f 2) n)) none-named
 
     need-none-last : (a b c d : Bool) (t : Took M.Step) → (a ≡ true → d ≡ false) → need a 57 (need b 57 (need c 57 (need d 57 t))) ≡ refuses 57
@@ -217,7 +233,7 @@ module _ (P : Package) (R : Reader) (x : Draft) (h : Holds P R x) (n : ℕ) (lin
             let d = all is_reference (drop 5 f) in
             alike
             (ap (need a 57) (ap (need v 57) (ap (need r 57) (need-both 57 _ b d) ∙ need-both 57 _ r (b && d)) ∙ need-both 57 _ v (r && (b && d))) ∙ need-both 57 _ a (v && (r && (b && d))))
-            (leaf _ _ (InvokeMethod m (byte f 2) (byte f 3) (record { count = byte f 4; objects = objects; few = few })) (ap (M.invokemethod m (byte f 2) (byte f 3)) (kept f 4 long few))
+            (leaf _ _ (InvokeMethod m (byte f 2) (byte f 3) (record { count = byte f 4; objects = places_of objects; few = within few })) (ap (M.invokemethod m (byte f 2) (byte f 3)) (kept f 4 long few))
             (ap (λ (b : Bool). a && (v && (r && b))) (are-kept f 4 long few (length (params_of P m)))))
         on (no n) = alike (need-none-last (is_method_of P m 0) _ _ _ _ (many m 0 (byte f 4) n)) none-named
 
@@ -259,16 +275,21 @@ module _ (P : Package) (R : Reader) (x : Draft) (h : Holds P R x) (n : ℕ) (lin
         cond-ag (eqb (b 0) 0x28) (λ e. methods (long-method (eqb-true (b 0) 0x28 e) h)) (λ _.
         leaf true (M.return (b 1)) (Return (value_in (b 1))) returned refl)))))))))
 
-    pub step-packed : step_by (b 0) (b 1) (b 2) (b 3) (b 4) (b 5) (b 6) (b 7) (b 8) (b 9) (b 10) ≡ step_in (pack_frame f)
-    unfolding step_in
-    step-packed = λ i. step_by (k 0 (lit< tt) i) (k 1 (lit< tt) i) (k 2 (lit< tt) i) (k 3 (lit< tt) i) (k 4 (lit< tt) i) (k 5 (lit< tt) i) (k 6 (lit< tt) i) (k 7 (lit< tt) i) (k 8 (lit< tt) i) (k 9 (lit< tt) i) (k 10 (lit< tt) i)
-      where
-        k : (i : ℕ) → i < 16 → byte f i ≡ get_or (pack_frame f).bytes i 0
-        k i h = sym (first-at 16 f i h)
-
-    pub step-judged : (row_of (byte f 0)).section ≡ 0x20 → Agrees (take_frame P (in_section 0x20 R) n f) (T.take_step P x n (pack_frame f))
+    step-as : length x.script.steps ≡ length R.steps → Same P 0x20 H (take_step P R n f) (T.take_step P x n (pack_frame f))
     unfolding take_step T.take_step
-    step-judged e =
-        subst (λ (t : Took Reader). Agrees t (T.take_step P x n (pack_frame f))) (sym (taken_step P R n f e))
-        (asked P 0x20 TooMany (ap (λ (m : ℕ). ltb m 1024) (sym (ap length h.steps) ∙ length-map x.script.steps placed_view)) (λ _.
-        asked P 0x20 BadLength (sym (fits-packed f)) (λ fit. (other step-packed (by-kind fit)).ag)))
+    step-as long =
+        asked P 0x20 H TooMany (ap (λ (m : ℕ). ltb m 1024) (sym long)) (λ _.
+        asked P 0x20 H BadLength (sym (fits-packed f)) (λ fit. (other (step-packed f) (by-kind fit)).ag))
+
+module _ (P : Package) (R : Reader) (x : Draft) (h : Holds P R x) (n : ℕ) (good : Good P) (f : List ℕ) (line : n < 65536) where
+  long : length x.script.steps ≡ length R.steps
+  long = sym (length-map x.script.steps placed_view) ∙ ap length h.steps
+
+  pub step-judged : Same P 0x20 (OneMore R x n) (take_step P R n f) (T.take_step P x n (pack_frame f))
+  step-judged = step-as P R x n line (OneMore R x n) (λ s. record { step = s; read = refl; taken = refl }) good f long
+
+  pub step-same : (row_of (byte f 0)).section ≡ 0x20 → Same P 0x20 (Holds P) (take_frame P (in_section 0x20 R) n f) (T.take_step P x n (pack_frame f))
+  unfolding take_step
+  step-same e =
+      subst (λ (t : Took Reader). Same P 0x20 (Holds P) t (T.take_step P x n (pack_frame f))) (sym (taken_step P R n f e))
+      (step-as P R x n line (Holds P) (step-holds P R x h n) good f long)

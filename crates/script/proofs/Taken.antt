@@ -8,13 +8,13 @@ use lib.Dec.{eqb, ltb, lit<}
 use Rattle.std.proofs.Common.{get_or-set_same, get_or-set_other, length-set}
 use lib.ListN.{length, get_or, set, length-append}
 use borrow.Author.Tests.{ne_eqb, ltb-true, eqb-true, eqb-false, lt-ltb}
-use Rattle.std.specs.Prelude.{Result, Ok, Option, Some, None, is_some}
+use Rattle.std.specs.Prelude.{Result, Ok, Err, Option, Some, None, is_some}
 use Rattle.meaning.specs.Lists.{any, all}
 use Rattle.meaning.specs.Text.{byte}
 use Rattle.meaning.specs.Kinds.{row_of, follows}
 use Rattle.meaning.specs.Tables.{Package}
 use Rattle.meaning.specs.Tests.{subtype}
-use Rattle.meaning.specs.Reading.{Took, need, is_class, is_type}
+use Rattle.meaning.specs.Reading.{Took, takes, refuses, need, is_class, is_type}
 use Rattle.runs.specs.Machine as M
 use Rattle.runs.specs.Machine.{Object, object, same_link, same_label, add, add_all}
 use Rattle.runs.specs.Steps.{in_pool, is_a, is_numbered, is_object_below, room_for}
@@ -96,9 +96,10 @@ need-both : {A : Type 0} (k : ℕ) (t : Took A) (a b : Bool) → need a k (need 
 need-both k t true b = refl
 need-both k t false b = refl
 
-module _ (P : Package) (k : ℕ) where
+-- what is taken is H
+module _ (P : Package) (k : ℕ) (H : Reader → Draft → Type 0) where
   abbrev Agrees : Took Reader → Result Draft Refusal → Type 0
-  Agrees = Same P k (Holds P)
+  Agrees = Same P k H
 
   -- a test of the definition and one of `take`
   pub asked : {t : Took Reader} {o : Result Draft Refusal} (r : Refusal) {b c : Bool} → b ≡ c → (b ≡ true → Agrees t o) → Agrees (need b (run_number_of r) t) (T.require c r o)
@@ -296,36 +297,74 @@ module _ (P : Package) (R : Reader) (x : Draft) (h : Holds P R x) where
         steps = h.steps;
       }
 
-module _ (P : Package) (R : Reader) (x : Draft) (h : Holds P R x) (n : ℕ) (f : List ℕ) where
+-- what the definition says of a frame that `take` takes, or refuses
+abbrev pub judged : Result Draft Refusal → Took Reader → Took Reader
+judged (Ok x) t = t
+judged (Err r) t = refuses (run_number_of r)
+
+-- taken as this reader, or refused with one number
+as-judged : (P : Package) (k : ℕ) (Q : Reader) {t : Took Reader} {o : Result Draft Refusal} → Same P k (λ (R : Reader) (y : Draft). in_section k R ≡ Q) t o → t ≡ judged o (takes Q)
+as-judged P k Q (taken e) = ap takes e
+as-judged P k Q refused = refl
+
+module _ (P : Package) (R : Reader) (x : Draft) (h : Holds P R x) (f : List ℕ) where
   abbrev at : ℕ → ℕ
   at i = get_or (pack_frame f).bytes i 0
 
-  pub object-judged : ((i : ℕ) → byte f i < 256) → (row_of (byte f 0)).section ≡ 0x11 → Same P 0x11 (Holds P) (take_frame P (in_section 0x11 R) n f) (T.take_object P x (pack_frame f))
-  unfolding take_object T.take_object
-  object-judged small e =
-      subst (λ (t : Took Reader). Same P 0x11 (Holds P) t (T.object_by P x (fits_frame (pack_frame f)) (at 1) (at 2))) (sym (taken-object P R n f e))
-      (subst (λ (o : Result Draft Refusal). Same P 0x11 (Holds P) (take_object P (in_section 0x11 R) f) o) (λ i. T.object_by P x (sym (fits-packed f) i) (sym (first-at 16 f 1 (lit< tt)) i) (sym (first-at 16 f 2 (lit< tt)) i))
-      (asked P 0x11 {o = T.require (is_reference (byte f 1) && (is_type P (byte f 2) && not (is_object x.script.start (byte f 1)))) BadNumber (Ok (T.with_object x (byte f 1) (byte f 2)))} BadLength refl (λ _.
-      asked₃ P 0x11 BadNumber (is_reference (byte f 1)) (is_type P (byte f 2)) (not (in_pool R.objects (byte f 1)))
-      (ap (λ (b : Bool). is_reference (byte f 1) && (is_type P (byte f 2) && not b)) (h.objects (byte f 1))) (λ e.
-      taken {R = with_object_line R (object (byte f 1) (byte f 2))}
-      (has_more P R x h (byte f 1) (byte f 2) (and-first _ _ e) (not-true' _ (and-last _ _ (and-last _ _ e))) (small 1))))))
+  -- ---- objects
 
-  pub label-judged : (row_of (byte f 0)).section ≡ 0x14 → Same P 0x14 (Holds P) (take_frame P (in_section 0x14 R) n f) (T.take_label P x (pack_frame f))
+  abbrev with_its_object : Reader
+  with_its_object = with_object_line R (object (byte f 1) (byte f 2))
+
+  object-as : (H : Reader → Draft → Type 0) → (is_reference (byte f 1) ≡ true → in_pool R.objects (byte f 1) ≡ false → H with_its_object (T.with_object x (byte f 1) (byte f 2)))
+      → Same P 0x11 H (take_object P R f) (T.take_object P x (pack_frame f))
+  unfolding take_object T.take_object
+  object-as H more =
+      subst (λ (o : Result Draft Refusal). Same P 0x11 H (take_object P R f) o) (λ i. T.object_by P x (sym (fits-packed f) i) (sym (first-at 16 f 1 (lit< tt)) i) (sym (first-at 16 f 2 (lit< tt)) i))
+      (asked P 0x11 H {o = T.require (is_reference (byte f 1) && (is_type P (byte f 2) && not (is_object x.script.start (byte f 1)))) BadNumber (Ok (T.with_object x (byte f 1) (byte f 2)))} BadLength refl (λ _.
+      asked₃ P 0x11 H BadNumber (is_reference (byte f 1)) (is_type P (byte f 2)) (not (in_pool R.objects (byte f 1)))
+      (ap (λ (b : Bool). is_reference (byte f 1) && (is_type P (byte f 2) && not b)) (h.objects (byte f 1))) (λ e.
+      taken {R = with_its_object} (more (and-first _ _ e) (not-true' _ (and-last _ _ (and-last _ _ e)))))))
+
+  pub object-judged : take_object P R f ≡ judged (T.take_object P x (pack_frame f)) (takes with_its_object)
+  object-judged = as-judged P 0x11 with_its_object (object-as (λ (Q : Reader) (y : Draft). in_section 0x11 Q ≡ with_its_object) (λ a b. refl))
+
+  pub object-same : (n : ℕ) → byte f 1 < 256 → (row_of (byte f 0)).section ≡ 0x11 → Same P 0x11 (Holds P) (take_frame P (in_section 0x11 R) n f) (T.take_object P x (pack_frame f))
+  unfolding take_object
+  object-same n small e =
+      subst (λ (t : Took Reader). Same P 0x11 (Holds P) t (T.take_object P x (pack_frame f))) (sym (taken-object P R n f e))
+      (object-as (Holds P) (λ a b. has_more P R x h (byte f 1) (byte f 2) a b small))
+
+  -- ---- labels
+
+  abbrev with_its_label : Reader
+  with_its_label = with_label_line R (M.label (byte f 1) (byte f 2))
+
+  label-as : (H : Reader → Draft → Type 0) → H with_its_label (T.with_label x (label_of (byte f 1) (byte f 2))) → Same P 0x14 H (take_label P R f) (T.take_label P x (pack_frame f))
   unfolding take_label T.take_label
-  label-judged e =
-      subst (λ (t : Took Reader). Same P 0x14 (Holds P) t (T.label_by P x (fits_frame (pack_frame f)) (at 1) (at 2))) (sym (taken-label P R n f e))
-      (subst (λ (o : Result Draft Refusal). Same P 0x14 (Holds P) (take_label P (in_section 0x14 R) f) o) (λ i. T.label_by P x (sym (fits-packed f) i) (sym (first-at 16 f 1 (lit< tt)) i) (sym (first-at 16 f 2 (lit< tt)) i))
-      (asked P 0x14 TooMany (ap (λ (n : ℕ). ltb n 32) (sym h.label_lines)) (λ few.
-      asked P 0x14 BadLength refl (λ _.
-      asked₂ P 0x14 BadNumber (in_pool R.objects (byte f 1)) (is_type P (byte f 2)) (ap (λ (b : Bool). b && is_type P (byte f 2)) (h.objects (byte f 1))) (λ _.
-      asked P 0x14 IllTyped (h.classes (byte f 1) (byte f 2)) (λ _.
-      passes P 0x14 TooMany (label-room P R x h (byte f 1) (byte f 2) few)
-      (taken {R = with_label_line R (M.label (byte f 1) (byte f 2))} (label-holds P R x h (byte f 1) (byte f 2)))))))))
+  label-as H more =
+      subst (λ (o : Result Draft Refusal). Same P 0x14 H (take_label P R f) o) (λ i. T.label_by P x (sym (fits-packed f) i) (sym (first-at 16 f 1 (lit< tt)) i) (sym (first-at 16 f 2 (lit< tt)) i))
+      (asked P 0x14 H TooMany (ap (λ (n : ℕ). ltb n 32) (sym h.label_lines)) (λ few.
+      asked P 0x14 H BadLength refl (λ _.
+      asked₂ P 0x14 H BadNumber (in_pool R.objects (byte f 1)) (is_type P (byte f 2)) (ap (λ (b : Bool). b && is_type P (byte f 2)) (h.objects (byte f 1))) (λ _.
+      asked P 0x14 H IllTyped (h.classes (byte f 1) (byte f 2)) (λ _.
+      passes P 0x14 H TooMany (label-room P R x h (byte f 1) (byte f 2) few)
+      (taken {R = with_its_label} more))))))
+
+  pub label-judged : take_label P R f ≡ judged (T.take_label P x (pack_frame f)) (takes with_its_label)
+  label-judged = as-judged P 0x14 with_its_label (label-as (λ (Q : Reader) (y : Draft). in_section 0x14 Q ≡ with_its_label) refl)
+
+  pub label-same : (n : ℕ) → (row_of (byte f 0)).section ≡ 0x14 → Same P 0x14 (Holds P) (take_frame P (in_section 0x14 R) n f) (T.take_label P x (pack_frame f))
+  unfolding take_label
+  label-same n e =
+      subst (λ (t : Took Reader). Same P 0x14 (Holds P) t (T.take_label P x (pack_frame f))) (sym (taken-label P R n f e))
+      (label-as (Holds P) (label-holds P R x h (byte f 1) (byte f 2)))
 
   -- the label and the links of a frame, as the code keeps it
   pub label-packed : label_of (at 1) (at 2) ≡ label_from (M.label (byte f 1) (byte f 2))
   label-packed = λ i. label_of (first-at 16 f 1 (lit< tt) i) (first-at 16 f 2 (lit< tt) i)
+
+  -- ---- links
 
   abbrev static_link : M.Link
   static_link = record { owner = M.no_owner; declared = byte f 1; type = byte f 2; target = byte f 3 }
@@ -333,22 +372,32 @@ module _ (P : Package) (R : Reader) (x : Draft) (h : Holds P R x) (n : ℕ) (f :
   pub static-link-packed : T.link_in Static (pack_frame f) ≡ link_from static_link
   static-link-packed = λ i. record { owner = 0xFF; declared = first-at 16 f 1 (lit< tt) i; typ = first-at 16 f 2 (lit< tt) i; target = first-at 16 f 3 (lit< tt) i }
 
-  pub static-link-judged : (row_of (byte f 0)).section ≡ 0x12 → Same P 0x12 (Holds P) (take_frame P (in_section 0x12 R) n f) (T.take_link P Static x (pack_frame f))
+  abbrev with_its_static_link : Reader
+  with_its_static_link = with_link_line R 0x12 static_link
+
+  static-link-as : (H : Reader → Draft → Type 0) → H with_its_static_link (T.with_link x (link_from static_link)) → Same P 0x12 H (take_static_link P R f) (T.take_link P Static x (pack_frame f))
   unfolding take_static_link T.take_link
-  static-link-judged e =
+  static-link-as H more =
       let c = byte f 1 in
       let t = byte f 2 in
       let q = byte f 3 in
-      let k : Link = link_from static_link in
-      subst (λ (t : Took Reader). Same P 0x12 (Holds P) t (T.link_by P Static x (fits_frame (pack_frame f)) (T.link_in Static (pack_frame f)))) (sym (taken-static-link P R n f e))
-      (subst (λ (o : Result Draft Refusal). Same P 0x12 (Holds P) (take_static_link P (in_section 0x12 R) f) o)
+      subst (λ (o : Result Draft Refusal). Same P 0x12 H (take_static_link P R f) o)
       (λ i. T.link_by P Static x (sym (fits-packed f) i) (sym static-link-packed i))
-      (asked P 0x12 TooMany (ap (λ (n : ℕ). ltb n 256) (sym h.link_lines)) (λ few.
-      asked P 0x12 BadLength refl (λ _.
-      asked₄ P 0x12 BadNumber (is_class P c) (is_type P t) (some_field P c t 1) (in_pool R.objects q) (ap (λ (b : Bool). (is_class P c && (is_type P t && some_field P c t 1)) && b) (h.objects q)) (λ _.
-      asked P 0x12 IllTyped (h.classes q t ∙ sym (and-true _)) (λ _.
-      passes P 0x12 TooMany (link-room P R x h static_link few)
-      (taken {R = with_link_line R 0x12 static_link} (link-holds P R x h 0x12 static_link))))))))
+      (asked P 0x12 H TooMany (ap (λ (n : ℕ). ltb n 256) (sym h.link_lines)) (λ few.
+      asked P 0x12 H BadLength refl (λ _.
+      asked₄ P 0x12 H BadNumber (is_class P c) (is_type P t) (some_field P c t 1) (in_pool R.objects q) (ap (λ (b : Bool). (is_class P c && (is_type P t && some_field P c t 1)) && b) (h.objects q)) (λ _.
+      asked P 0x12 H IllTyped (h.classes q t ∙ sym (and-true _)) (λ _.
+      passes P 0x12 H TooMany (link-room P R x h static_link few)
+      (taken {R = with_its_static_link} more))))))
+
+  pub static-link-judged : take_static_link P R f ≡ judged (T.take_link P Static x (pack_frame f)) (takes with_its_static_link)
+  static-link-judged = as-judged P 0x12 with_its_static_link (static-link-as (λ (Q : Reader) (y : Draft). in_section 0x12 Q ≡ with_its_static_link) refl)
+
+  pub static-link-same : (n : ℕ) → (row_of (byte f 0)).section ≡ 0x12 → Same P 0x12 (Holds P) (take_frame P (in_section 0x12 R) n f) (T.take_link P Static x (pack_frame f))
+  unfolding take_static_link
+  static-link-same n e =
+      subst (λ (t : Took Reader). Same P 0x12 (Holds P) t (T.take_link P Static x (pack_frame f))) (sym (taken-static-link P R n f e))
+      (static-link-as (Holds P) (link-holds P R x h 0x12 static_link))
 
   abbrev object_link : M.Link
   object_link = record { owner = byte f 1; declared = byte f 2; type = byte f 3; target = byte f 4 }
@@ -356,20 +405,31 @@ module _ (P : Package) (R : Reader) (x : Draft) (h : Holds P R x) (n : ℕ) (f :
   pub object-link-packed : T.link_in Instance (pack_frame f) ≡ link_from object_link
   object-link-packed = λ i. record { owner = first-at 16 f 1 (lit< tt) i; declared = first-at 16 f 2 (lit< tt) i; typ = first-at 16 f 3 (lit< tt) i; target = first-at 16 f 4 (lit< tt) i }
 
-  pub object-link-judged : (row_of (byte f 0)).section ≡ 0x13 → Same P 0x13 (Holds P) (take_frame P (in_section 0x13 R) n f) (T.take_link P Instance x (pack_frame f))
+  abbrev with_its_object_link : Reader
+  with_its_object_link = with_link_line R 0x13 object_link
+
+  object-link-as : (H : Reader → Draft → Type 0) → H with_its_object_link (T.with_link x (link_from object_link)) → Same P 0x13 H (take_object_link P R f) (T.take_link P Instance x (pack_frame f))
   unfolding take_object_link T.take_link
-  object-link-judged e =
+  object-link-as H more =
       let p = byte f 1 in
       let c = byte f 2 in
       let t = byte f 3 in
       let q = byte f 4 in
-      subst (λ (t : Took Reader). Same P 0x13 (Holds P) t (T.link_by P Instance x (fits_frame (pack_frame f)) (T.link_in Instance (pack_frame f)))) (sym (taken-object-link P R n f e))
-      (subst (λ (o : Result Draft Refusal). Same P 0x13 (Holds P) (take_object_link P (in_section 0x13 R) f) o)
+      subst (λ (o : Result Draft Refusal). Same P 0x13 H (take_object_link P R f) o)
       (λ i. T.link_by P Instance x (sym (fits-packed f) i) (sym object-link-packed i))
-      (asked P 0x13 TooMany (ap (λ (n : ℕ). ltb n 256) (sym h.link_lines)) (λ few.
-      asked P 0x13 BadLength refl (λ _.
-      asked₅ P 0x13 BadNumber (in_pool R.objects p) (is_class P c) (is_type P t) (some_field P c t 0) (in_pool R.objects q)
+      (asked P 0x13 H TooMany (ap (λ (n : ℕ). ltb n 256) (sym h.link_lines)) (λ few.
+      asked P 0x13 H BadLength refl (λ _.
+      asked₅ P 0x13 H BadNumber (in_pool R.objects p) (is_class P c) (is_type P t) (some_field P c t 0) (in_pool R.objects q)
       (ap₂ (λ (a b : Bool). a && ((is_class P c && (is_type P t && some_field P c t 0)) && b)) (h.objects p) (h.objects q)) (λ _.
-      asked₂ P 0x13 IllTyped (is_a P R.objects q t) (is_a P R.objects p c) (ap₂ ◌&&◌ (h.classes q t) (h.classes p c)) (λ _.
-      passes P 0x13 TooMany (link-room P R x h object_link few)
-      (taken {R = with_link_line R 0x13 object_link} (link-holds P R x h 0x13 object_link))))))))
+      asked₂ P 0x13 H IllTyped (is_a P R.objects q t) (is_a P R.objects p c) (ap₂ ◌&&◌ (h.classes q t) (h.classes p c)) (λ _.
+      passes P 0x13 H TooMany (link-room P R x h object_link few)
+      (taken {R = with_its_object_link} more))))))
+
+  pub object-link-judged : take_object_link P R f ≡ judged (T.take_link P Instance x (pack_frame f)) (takes with_its_object_link)
+  object-link-judged = as-judged P 0x13 with_its_object_link (object-link-as (λ (Q : Reader) (y : Draft). in_section 0x13 Q ≡ with_its_object_link) refl)
+
+  pub object-link-same : (n : ℕ) → (row_of (byte f 0)).section ≡ 0x13 → Same P 0x13 (Holds P) (take_frame P (in_section 0x13 R) n f) (T.take_link P Instance x (pack_frame f))
+  unfolding take_object_link
+  object-link-same n e =
+      subst (λ (t : Took Reader). Same P 0x13 (Holds P) t (T.take_link P Instance x (pack_frame f))) (sym (taken-object-link P R n f e))
+      (object-link-as (Holds P) (link-holds P R x h 0x13 object_link))

@@ -35,15 +35,15 @@ starting P x r =
     and_then (section 0x13 (λ x line f. take_link P Instance x f) s.0 s.1) (λ k.
     section 0x14 (λ x line f. take_label P x f) k.0 k.1)))
 
--- behind them the steps, and the last line
-abbrev pub whole : Package → Reading → Result Script Refused
+-- behind them the steps, and the last line: the whole draft, with its counts of lines
+abbrev pub whole : Package → Reading → Result Draft Refused
 whole P r =
     and_then (entry P r) (λ e.
     and_then (starting P (begun e.0) e.1) (λ l.
     and_then (section 0x20 (λ x line f. take_step P x line f) l.0 l.1) (λ t.
-    and_then (ending 0x2F t.1) (λ _. Ok t.0.script))))
+    and_then (ending 0x2F t.1) (λ _. Ok t.0))))
 
-unfoldable pub read_by : Package → List ℕ → Result Script Refused
+unfoldable pub read_by : Package → List ℕ → Result Draft Refused
 read_by P s = cond (leb (length s) 32768) (whole P (record { number = 0; lines = lines_of s })) (refused TooLong 0)
 
 -- ---- what is read

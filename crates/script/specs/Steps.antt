@@ -1,6 +1,7 @@
 -- The step that a frame stands for, and whether what it names is declared.
 use Rattle.std.specs.Prelude.{ℕ, Bool, true, ◌&&◌, ◌==◌, ◌≤◌, List, [], ◌∷◌, length, slice_index, Option, Some, None, if◌then◌else◌}
 use Rattle.std.proofs.Math.Decide.{dec_le}
+use Rattle.std.proofs.Common.{le_trans, lit≤}
 use Rattle.machine.specs.Step.{arguments_of}
 use Rattle.std.specs.List.{list_all}
 use Rattle.meaning.specs.Tables.{Package, params_of}
@@ -14,9 +15,21 @@ use Rattle.machine.specs.declared.step.Step.TheVariants.{Widen, New, CheckCast, 
 abbrev pub byte : Frame → ℕ → ℕ
 byte f i = slice_index f.bytes i
 
+-- what stands behind the sixth argument
+abbrev pub no_more : List ℕ
+no_more = 0 ∷ 0 ∷ 0 ∷ 0 ∷ 0 ∷ 0 ∷ 0 ∷ []
+
+-- six objects in the places of a step's arguments
+abbrev pub places_of : List ℕ → List ℕ
+places_of objects = slice_index objects 0 ∷ slice_index objects 1 ∷ slice_index objects 2 ∷ slice_index objects 3 ∷ slice_index objects 4 ∷ slice_index objects 5 ∷ no_more
+
+-- no more than a step has room for
+pub within : {count : ℕ} → count ≤ 6 → count ≤ 13
+within few = le_trans few (lit≤ tt)
+
 -- so many of these objects, unless they are more than a method takes
 abbrev pub arguments_by : (count : ℕ) → List ℕ → Dec (count ≤ 6) → Option Arguments
-arguments_by count objects (yes few) = Some (record { count = count; objects = objects; few = few })
+arguments_by count objects (yes few) = Some (record { count = count; objects = places_of objects; few = within few })
 arguments_by count objects (no many) = None
 
 unfoldable pub arguments_in : ℕ → List ℕ → Option Arguments

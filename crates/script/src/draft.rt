@@ -6,17 +6,17 @@ ghost use Rattle.script.specs.Start.{is_object, is_instance};
 ghost use Rattle.script.specs.Readings.{begun};
 
 use counted::Counted;
-use machine::{Loaded, Placed, State, Step};
+use machine::{Loaded, Placed, State};
 
 /// The start and the steps, as they are read.
-#[derive(Drop)]
+#[derive(Clone, Copy)]
 pub struct Script {
     pub start: State,
     pub steps: Counted<Placed, 1024>,
 }
 
 /// A script with how many lines of links and of labels were read, repeated ones too: the start has each once.
-#[derive(Drop)]
+#[derive(Clone, Copy)]
 pub struct Draft {
     pub script: Script,
     pub link_lines: usize,
@@ -31,10 +31,7 @@ impl Draft {
         Draft {
             script: Script {
                 start: State::new(0),
-                steps: Counted::new(Placed {
-                    line: 0,
-                    step: Step::Return { value: None },
-                }),
+                steps: Counted::new(),
             },
             link_lines: 0,
             label_lines: 0,

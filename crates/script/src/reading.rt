@@ -32,11 +32,16 @@ fn read_entry(lines: &mut Lines, loaded: &Loaded) -> Result<u8, Refused>
     Ok(method)
 }
 
-// The entry method runs, before anything is there.
+// The entry method runs, before anything is there. The steps' array is large: one that holds none is kept.
 fn begin(draft: &mut Draft, method: u8)
-    requires { draft.old ≡ begun 0 }
     ensures { draft.new ≡ begun method }
 {
+    if draft.script.steps.as_slice().is_empty() {
+        draft.link_lines = 0;
+        draft.label_lines = 0;
+    } else {
+        *draft = Draft::new();
+    }
     draft.script.start = State::new(method);
 }
 
@@ -53,8 +58,7 @@ fn read_start(lines: &mut Lines, draft: &mut Draft, loaded: &Loaded) -> Result<(
 
 // Kinds never fall up to 14, and all steps are one section, so that each section is read by itself, and behind the steps only the last line may stand.
 fn read_whole(lines: &mut Lines, loaded: &Loaded, draft: &mut Draft) -> Result<(), Refused>
-    requires { draft.old ≡ begun 0 }
-    ensures { MatchResult result (λ _. whole (view loaded.now) lines.old ≡ Ok draft.new.script) (λ refused. whole (view loaded.now) lines.old ≡ Err refused) }
+    ensures { MatchResult result (λ _. whole (view loaded.now) lines.old ≡ Ok draft.new) (λ refused. whole (view loaded.now) lines.old ≡ Err refused) }
 {
     begin(draft, read_entry(lines, loaded)?);
     read_start(lines, draft, loaded)?;
@@ -66,8 +70,7 @@ fn read_whole(lines: &mut Lines, loaded: &Loaded, draft: &mut Draft) -> Result<(
 #[inline(always)]
 #[tactic(auto, unfolding(crate::specs::Readings::read_by))]
 fn read_sections(text: &[u8], loaded: &Loaded, draft: &mut Draft) -> Result<(), Refused>
-    requires { draft.old ≡ begun 0 }
-    ensures { MatchResult result (λ _. read_by (view loaded.now) text.now ≡ Ok draft.new.script) (λ refused. read_by (view loaded.now) text.now ≡ Err refused) }
+    ensures { MatchResult result (λ _. read_by (view loaded.now) text.now ≡ Ok draft.new) (λ refused. read_by (view loaded.now) text.now ≡ Err refused) }
 {
     if LONGEST < text.len() {
         return Err(Refused {
@@ -78,20 +81,19 @@ fn read_sections(text: &[u8], loaded: &Loaded, draft: &mut Draft) -> Result<(), 
     read_whole(&mut Lines::new(text), loaded, draft)
 }
 
-/// The start and the steps of a run text, into a draft that is lent before anything is there; or the first reason against the text, and its line, and
-/// the draft as it was. A script is large: by value it would be copied at each of these calls.
+/// The start and the steps of a run text, into a draft that is lent, whatever is in it; or the first reason against the text, and its line, and the
+/// draft before anything is there. A script is large: by value it would be copied at each of these calls.
 pub fn read(text: &[u8], loaded: &Loaded, draft: &mut Draft) -> Result<(), Refused>
-    requires { draft.old ≡ begun 0 }
     ensures meaning { MatchResult result (λ _. IsScript (view loaded.now) text.now draft.new.script) (IsRefused (view loaded.now) text.now) }
-    ensures exact { MatchResult result (λ _. read_by (view loaded.now) text.now ≡ Ok draft.new.script) (λ refused. read_by (view loaded.now) text.now ≡ Err refused) }
-    ensures refused { OnErr result (draft.new ≡ draft.old) }
+    ensures exact { MatchResult result (λ _. read_by (view loaded.now) text.now ≡ Ok draft.new) (λ refused. read_by (view loaded.now) text.now ≡ Err refused) }
+    ensures refused { OnErr result (draft.new ≡ begun 0) }
 {
     // Its tables say that the package is good.
     let _tables = loaded.tables();
     match read_sections(text, loaded, draft) {
         Ok(()) => Ok(()),
         Err(refused) => {
-            *draft = Draft::new();
+            begin(draft, 0);
             Err(refused)
         }
     }

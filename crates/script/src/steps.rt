@@ -25,8 +25,14 @@ pub(crate) fn is_reference(number: u8) -> bool
 fn arguments(count: u8, objects: [u8; 6]) -> Option<Arguments>
     ensures { result ≡ arguments_in count objects }
 {
+    let [first, second, third, fourth, fifth, sixth] = objects;
     if count <= 6 {
-        Some(Arguments { count, objects })
+        Some(Arguments {
+            count,
+            objects: [
+                first, second, third, fourth, fifth, sixth, 0, 0, 0, 0, 0, 0, 0,
+            ],
+        })
     } else {
         None
     }

@@ -16,7 +16,7 @@ use std::marker::Model;
 pub struct BadLine;
 
 /// What is left of a text. A line that breaks the rule is the last that is read.
-#[derive(Drop)]
+#[derive(Clone, Drop)]
 pub struct Lines<'a> {
     rest: &'a [u8],
     number: usize,
@@ -83,6 +83,16 @@ impl<'a> Lines<'a> {
         Lines {
             rest: text,
             number: 0,
+        }
+    }
+
+    /// A reader of the same lines, with which a caller looks ahead: what it reads is left to this one. It is no `clone`, which could fail.
+    pub fn ahead(&self) -> Lines<'a>
+        ensures { result ≡ self.now }
+    {
+        Lines {
+            rest: self.rest,
+            number: self.number,
         }
     }
 

@@ -11,7 +11,7 @@ accepted-requires c = (c.args.package.now, c.read-reading.ensures.meaning)
 pub returns-in_err-accepted : goal.returns-in_err-accepted
 returns-in_err-accepted c =
     let p = err_from_is_err_and c.from_residual.result c.from_residual.ensures.1 in
-    rw (p.1, p.2) (run-broken c.args.package.now _ _ c.if-out-lt-BUFFER.false _ (c.in_err-accepted.ensures c.args.package.now c.read-reading.ensures.meaning))
+    rw (p.1, p.2) (run-broken c.args.package.now _ _ c.if-out-lt-BUFFER.false _ (c.in_err-accepted.ensures.meaning c.args.package.now c.read-reading.ensures.meaning))
 
 pub returns : goal.returns
-returns c = run-accepted _ _ _ c.if-out-lt-BUFFER.false _ (c.in_ok-accepted.ensures c.args.package.now c.read-reading.ensures.meaning) c.run_script.ensures
+returns c = run-accepted _ _ _ c.if-out-lt-BUFFER.false _ (c.in_ok-accepted.ensures.meaning c.args.package.now c.read-reading.ensures.meaning) c.run_script.ensures

@@ -4,7 +4,7 @@ use Rattle.script.proofs.Chains.{and-ok, and-err}
 use Rattle.script.proofs.reading.read_whole.Goals as goal
 
 pub returns : goal.returns
-returns c = and-ok _ c.in_ok-read_entry.ensures (rw (← c.begin.ensures) (and-ok _ c.in_ok-read_start.ensures (and-ok _ c.in_ok-read_section.ensures (and-ok _ c.in_ok-read_end.ensures refl))))
+returns c = and-ok _ c.in_ok-read_entry.ensures (rw (← c.begin.ensures) (and-ok _ c.in_ok-read_start.ensures (and-ok _ c.in_ok-read_section.ensures (and-ok _ c.in_ok-read_end.ensures.end refl))))
 
 pub returns-in_err-read_start : goal.returns-in_err-read_start
 returns-in_err-read_start c =
@@ -19,4 +19,4 @@ returns-in_err-read_section c =
 pub returns-in_err-read_end : goal.returns-in_err-read_end
 returns-in_err-read_end c =
     let p = err_from_is_err_and c.from_residual-in_err-read_end.result c.from_residual-in_err-read_end.ensures.1 in
-    rw (p.1, p.2) (and-ok _ c.in_ok-read_entry.ensures (rw (← c.begin.ensures) (and-ok _ c.in_ok-read_start.ensures (and-ok _ c.in_ok-read_section.ensures (and-err _ c.in_err-read_end.ensures)))))
+    rw (p.1, p.2) (and-ok _ c.in_ok-read_entry.ensures (rw (← c.begin.ensures) (and-ok _ c.in_ok-read_start.ensures (and-ok _ c.in_ok-read_section.ensures (and-err _ c.in_err-read_end.ensures.end)))))

@@ -1,7 +1,7 @@
 //! The checker: the answer to a package text, whatever its bytes are.
 #![tactic(auto)]
 
-ghost use Rattle.std.specs.Prelude.{◌≡◌, ◌<◌, ◌^◌, ℕ, List, MatchResult};
+ghost use Rattle.std.specs.Prelude.{◌≡◌, ◌<◌, ◌^◌, ℕ, List, Ok, IfOk, MatchResult};
 ghost use Rattle.meaning.specs.Check.{check_of};
 ghost use Rattle.meaning.specs.Reading as M;
 ghost use Rattle.answer.specs.Answers.{answer_of};
@@ -30,7 +30,8 @@ pub fn refused_at(number: u8, line: usize) -> Answer
 #[tactic(auto, using(crate::proofs::Answered::answered))]
 pub fn accepted(reading: &Result<Tables, Refused>) -> Result<&Tables, Answer>
     requires { (text : List ℕ) × Reads text reading.now }
-    ensures { (text : List ℕ) → Reads text reading.now → MatchResult result (λ tables. IsAccepted text (view tables.now)) (λ told. IsRefused text told) }
+    ensures meaning { (text : List ℕ) → Reads text reading.now → MatchResult result (λ tables. IsAccepted text (view tables.now)) (λ told. IsRefused text told) }
+    ensures lent { IfOk result (λ tables. reading.now ≡ Ok tables.now) }
 {
     // a refusal's line fits two bytes by what `read` promises of the text, which no `From` could know
     let tables = match reading {

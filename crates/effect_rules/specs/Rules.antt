@@ -6,7 +6,9 @@ use Rattle.meaning.specs.Tests.{breaks26, breaks27, breaks28, breaks29, breaks30
 use Rattle.rules.specs.declared.Rule.{Rule}
 use Rattle.rules.specs.declared.Rule.TheVariants.{DistrustedCreation, DistrustedType, DistrustedStaticCall, DistrustedInvocation, UngrantedArgument}
 use Rattle.effect_rules.specs.declared.rule.EffectRule.{EffectRule}
+use Rattle.effect_rules.specs.declared.site.Named.{Named}
 use Rattle.effect_rules.specs.declared.rule.EffectRule.TheVariants.{Creation, Typing, StaticCall, Invocation, Argument}
+use Rattle.effect_rules.specs.Sites.{arguments_of}
 
 abbrev pub rule_of : EffectRule → Rule
 rule_of Creation = DistrustedCreation
@@ -38,3 +40,11 @@ seconds_of Typing P i = 1
 seconds_of StaticCall P i = 1
 seconds_of Invocation P i = 1
 seconds_of Argument P i = length (params_of P (named_by P i))
+
+-- those at which what the effect does may break the rule: 30 looks at calls alone
+abbrev pub places_of : EffectRule → Named → ℕ
+places_of Creation named = 1
+places_of Typing named = 1
+places_of StaticCall named = 1
+places_of Invocation named = 1
+places_of Argument named = arguments_of named

@@ -52,6 +52,15 @@ is_called (Written field) = false
 is_called (CalledStatic method) = true
 is_called (Called method) = true
 
+-- how many arguments it hands over: the parameters of the method that is called
+abbrev pub arguments_of : Named → ℕ
+arguments_of (Created class) = 0
+arguments_of (CastTo class) = 0
+arguments_of (Read field) = 0
+arguments_of (Written field) = 0
+arguments_of (CalledStatic method) = length (take method.now.parameter_count method.now.parameters)
+arguments_of (Called method) = length (take method.now.parameter_count method.now.parameters)
+
 -- an effect with this op does this, and nothing else
 pub record DoesBy (op : ℕ) (named : Named) : Type 0 where
   pub makes : (eqb op 0 || eqb op 1) ≡ is_made named

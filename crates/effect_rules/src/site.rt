@@ -6,7 +6,7 @@ ghost use Rattle.tables.specs.View.{operation_number, view};
 ghost use Rattle.effect_rules.specs.declared.rule.EffectRule.TheVariants.{Argument};
 ghost use Rattle.effect_rules.specs.Sites.{DoesBy, IsField, IsMethod, Names, IsDeclared, IsEffect};
 ghost use Rattle.effect_rules.specs.Facts.{Names-fact};
-ghost use Rattle.effect_rules.specs.Rules.{breaks_of, seconds_of};
+ghost use Rattle.effect_rules.specs.Rules.{breaks_of, seconds_of, places_of};
 ghost use Rattle.effect_rules.specs.Search.{broken_at, lowest_at};
 
 use crate::rule::EffectRule;
@@ -198,6 +198,7 @@ impl<'a> Site<'a> {
 
     /// How many second places may break a rule beside the effect: the parameters of what is called for 30, and one for the others.
     pub(crate) fn places(&self, rule: EffectRule) -> usize
+        ensures value { result ≡ places_of rule self.now.named }
         ensures most { result ≤ seconds_of rule (view self.now.trust.now) self.now.number }
         ensures rest { (second : ℕ) → result ≤ second → second < seconds_of rule (view self.now.trust.now) self.now.number → breaks_of rule (view self.now.trust.now) self.now.number second ≡ false }
     {

@@ -16,6 +16,9 @@ nowhere n f h = on (first_place n (λ _. n) f) refl
     on M.none e = refl
     on (M.some p) e = let w = first_place_sound n (λ _. n) f p e in absurd (false-fails _ (h p.first p.second w.first w.second) w.passes)
 
+pub nowhere_found : (n : ℕ) (f : ℕ → ℕ → Bool) → ((a b : ℕ) → a < n → b < n → f a b ≡ false) → is_some (pair_of (first_place n (λ _. n) f)) ≡ false
+nowhere_found n f h = rw (nowhere n f h) refl
+
 no_pair : (x : M.Option Place) → pair_of x ≡ None → x ≡ M.none
 no_pair M.none e = refl
 no_pair (M.some p) e = absurd (grind arith)

@@ -1,5 +1,5 @@
 // The methods of each slot, and whether any two of them break a rule.
-ghost use Rattle.std.specs.Prelude.{◌≡◌, ◌≤◌, IsFalse, length};
+ghost use Rattle.std.specs.Prelude.{◌≡◌, ◌≤◌, ◌↔◌, IsFalse, IsNone, length};
 ghost use Rattle.tables.specs.View.{view};
 ghost use Rattle.pair_rules.specs.Slots.{AreSlots, AreInDoubt, HaveOneType, IsKeptByMethods};
 
@@ -20,10 +20,10 @@ pub(crate) fn slots(tables: &Tables) -> Chains
     Chains::new(keys, count)
 }
 
-// Whether a method differs from the first one of its slot: where none does, no two of a slot differ.
+// Whether a method differs from the first one of its slot: some do exactly where two of a slot differ.
 fn some_differ(tables: &Tables, slots: &Chains) -> bool
     requires { AreSlots tables.now slots.now }
-    ensures { IsFalse result → HaveOneType (view tables.now) }
+    ensures { IsFalse result ↔ HaveOneType (view tables.now) }
 {
     let count = slots.count();
     for number in 0..count {
@@ -38,7 +38,7 @@ fn some_differ(tables: &Tables, slots: &Chains) -> bool
 // Whether some rule of methods is broken.
 fn some_broken(trust: &Trust, slots: &Chains) -> bool
     requires { AreSlots trust.now slots.now }
-    ensures { IsFalse result → IsKeptByMethods (view trust.now) }
+    ensures { IsFalse result ↔ IsKeptByMethods (view trust.now) }
 {
     if some_differ(trust.tables(), slots) {
         return true;
@@ -49,7 +49,8 @@ fn some_broken(trust: &Trust, slots: &Chains) -> bool
 /// The methods' slots, unless no rule of methods is broken: a package that is accepted is searched once, not once for each rule.
 pub(crate) fn in_doubt<'s>(trust: &Trust, slots: &'s Chains) -> Option<&'s Chains>
     requires { AreSlots trust.now slots.now }
-    ensures { AreInDoubt trust.now result }
+    ensures slots { AreInDoubt trust.now result }
+    ensures none { IsNone result ↔ IsKeptByMethods (view trust.now) }
 {
     if some_broken(trust, slots) {
         Some(slots)

@@ -1,10 +1,11 @@
 //! The rules that a package may break, and the first place at which one is broken.
 #![tactic(auto)]
 
-ghost use Rattle.std.specs.Prelude.{◌≡◌};
+ghost use Rattle.std.specs.Prelude.{◌≡◌, Some};
 ghost use Rattle.answer.specs.Answers.{answer_of};
 ghost use Rattle.meaning.specs.Reading.{answer};
 ghost use Rattle.rules.specs.Numbers.{number_of};
+ghost use Rattle.rules.specs.Texts.{rule_text, broken_text};
 
 use answer::Answer;
 use std::fmt;
@@ -63,6 +64,8 @@ impl From<Rule> for u8 {
 }
 
 impl fmt::Display for Rule {
+    ghost output = { λ rule. Some (rule_text rule) };
+
     fn fmt<W: fmt::Write>(&self, f: &mut fmt::Formatter<W>) -> fmt::Result {
         f.write_str(match self {
             Rule::MutualDominance =>
@@ -104,6 +107,8 @@ pub struct Broken {
 }
 
 impl fmt::Display for Broken {
+    ghost output = { λ broken. Some (broken_text broken) };
+
     fn fmt<W: fmt::Write>(&self, f: &mut fmt::Formatter<W>) -> fmt::Result {
         write!(
             f,

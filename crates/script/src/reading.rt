@@ -32,6 +32,14 @@ fn read_entry(lines: &mut Lines, loaded: &Loaded) -> Result<u8, Refused>
     Ok(method)
 }
 
+// A draft before anything is there. It is made in a function of its own, since a function clears its locals where it begins, and a draft is large.
+#[inline(never)]
+fn renew(draft: &mut Draft)
+    ensures { draft.new ≡ begun 0 }
+{
+    *draft = Draft::new();
+}
+
 // The entry method runs, before anything is there. The steps' array is large: one that holds none is kept.
 fn begin(draft: &mut Draft, method: u8)
     ensures { draft.new ≡ begun method }
@@ -40,7 +48,7 @@ fn begin(draft: &mut Draft, method: u8)
         draft.link_lines = 0;
         draft.label_lines = 0;
     } else {
-        *draft = Draft::new();
+        renew(draft);
     }
     draft.script.start = State::new(method);
 }

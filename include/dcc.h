@@ -9,7 +9,8 @@
  * - answer alike for like bytes: they keep nothing from call to call, have no heap, no files and no global state, so they may be called
  *   from several threads or interrupts at once;
  * - return. Every loop and the one recursion are bounded by the texts' lengths;
- * - use stack: up to 48 KB for dcc_check and 140 KB for dcc_run, seen with packages and runs at the limits (bench/stack measures it).
+ * - use stack: up to 48 KB for dcc_check and 172 KB for dcc_run (158 KB where the run text is admitted), seen with packages and runs at the
+ *   limits (bench/stack measures it).
  *
  * What the caller owes is what its pointers are. A text is `length` bytes that can be read and that nobody changes during the call. A
  * buffer is `out_len` bytes that can be read and written, that nobody else touches during the call, and that overlap neither text. With

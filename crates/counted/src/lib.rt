@@ -1,72 +1,40 @@
-//! An array with a count: at most `N` items, by value, with no heap.
+//! Arrays with a count: at most `N` items, by value, with no heap. A `Filled` can be copied; so the type of its items must have a filler, and that of a `Counted` need not.
 #![tactic(auto)]
 
-ghost use Rattle.std.specs.Prelude.{◌≡◌, ◌<◌, ◌≤◌, ◌↔◌, List, [], ◌∷◌, ◌++◌, length, IsTrue, ⊤};
+ghost use Rattle.std.specs.Prelude.{◌≡◌, ◌<◌, ◌≤◌, ◌↔◌, List, [], ◌∷◌, ◌++◌, length, take, IsTrue};
 ghost use Rattle.std.specs.List.{list_any};
 ghost use Rattle.std.specs.List.Sorted.{IsPermutation, IsSorted};
 
-use std::alloc::AllocError;
+mod filled;
+#[cfg(test)]
+mod tests;
+
+pub use filled::{Filled, Filler};
 use std::marker::Model;
 
-/// An item that may stand in a `Counted`: it has one value for the places that are free, so that arrays with the same items are the same to the byte.
-pub trait Filler: Copy {
-    ghost filler: { Self };
-
-    fn filler() -> Self
-        ensures { result ≡ filler };
-}
-
-impl Filler for u32 {
-    ghost filler = { 0 };
-
-    #[inline(always)]
-    fn filler() -> Self {
-        0
-    }
-}
-
-/// At most `N` items, in the order in which they came.
-pub struct Counted<T: Filler, const N: usize> {
+/// At most `N` items, in the order in which they came. What stands in the places that are free is nothing that a caller can see.
+#[derive(Drop)]
+pub struct Counted<T: Copy, const N: usize> {
     items: [T; N],
     count: usize,
 }
 
-// Clauses see the items. The places behind them hold the filler, so the items say what every place holds.
-impl<T: Filler, const N: usize> Model for Counted<T, N> {
-    ghost use Rattle.std.specs.Prelude.{List, length, take};
-    ghost use Rattle.counted.specs.Filled.{pad, IsFilled, pad-front, count-front};
-
+// Clauses see the items.
+impl<T: Copy, const N: usize> Model for Counted<T, N> {
     ghost Value = { List T };
 
     ghost view = { λ s. take s.count s.items };
 
-    ghost invariant = { λ s. IsFilled N T.filler s.count s.items };
-
-    ghost inverse = { λ xs. record { items = pad N T.filler xs; count = length xs } };
-
-    ghost inverse_ok = { λ s h i. record { items = pad-front N T.filler s.count s.items h i; count = count-front N T.filler s.count s.items h i } };
+    ghost invariant = { λ s. s.count ≤ N };
 }
 
-// A clone is a copy: it has the same items.
-impl<T: Filler, const N: usize> Clone for Counted<T, N> {
-    ghost is_clone = { λ x y. y ≡ x };
-
-    ghost is_infallible = { λ _. ⊤ };
-
-    fn clone(&self) -> Result<Self, AllocError> {
-        Ok(*self)
-    }
-}
-
-impl<T: Filler, const N: usize> Copy for Counted<T, N> {}
-
-impl<T: Filler, const N: usize> Counted<T, N> {
-    /// No items.
-    pub fn new() -> Self
+impl<T: Copy, const N: usize> Counted<T, N> {
+    /// No items; `filler` stands in the places that are free.
+    pub fn new(filler: T) -> Self
         ensures { result ≡ [] }
     {
         Counted {
-            items: [T::filler(); N],
+            items: [filler; N],
             count: 0,
         }
     }
@@ -100,7 +68,7 @@ impl<T: Filler, const N: usize> Counted<T, N> {
     }
 }
 
-impl<T: Filler + PartialEq, const N: usize> Counted<T, N> {
+impl<T: Copy + PartialEq, const N: usize> Counted<T, N> {
     pub fn contains(&self, item: &T) -> bool
         ensures { result ≡ list_any (λ y. T.eq y item.now) self.now }
     {
@@ -108,7 +76,7 @@ impl<T: Filler + PartialEq, const N: usize> Counted<T, N> {
     }
 }
 
-impl<T: Filler + Ord, const N: usize> Counted<T, N> {
+impl<T: Copy + Ord, const N: usize> Counted<T, N> {
     /// The items in rising order.
     pub fn sort(&mut self)
         ensures permutation { IsPermutation self.old self.new }

@@ -5,7 +5,7 @@ ghost use Rattle.runs.specs.Holdings.{holding, key, Bytes};
 ghost use Rattle.tables.specs.View.{view};
 ghost use Rattle.holdings.specs.Held.{framed, linked, held, AllBytes};
 
-use counted::Counted;
+use counted::Filled;
 use machine::{Label, Link, State};
 use tables::Tables;
 
@@ -44,7 +44,7 @@ fn domain_of(tables: &Tables, method: u8) -> u8
 }
 
 /// The keys of a method's frame join the others.
-fn add_frame(keys: &mut Counted<u32, MOST>, tables: &Tables, method: u8, labels: &[Label])
+fn add_frame(keys: &mut Filled<u32, MOST>, tables: &Tables, method: u8, labels: &[Label])
     requires { length keys.old + length labels.now ≤ 800 }
     ensures keys { keys.new ≡ keys.old ++ map key (framed (view tables.now) method labels.now) }
     ensures bytes { AllBytes (framed (view tables.now) method labels.now) }
@@ -56,7 +56,7 @@ fn add_frame(keys: &mut Counted<u32, MOST>, tables: &Tables, method: u8, labels:
 }
 
 /// The keys of the links' targets join the others: each is held by the domain of the class that declares the link's field.
-fn add_links(keys: &mut Counted<u32, MOST>, tables: &Tables, links: &[Link])
+fn add_links(keys: &mut Filled<u32, MOST>, tables: &Tables, links: &[Link])
     requires { length keys.old + length links.now ≤ 800 }
     ensures keys { keys.new ≡ keys.old ++ map key (map (linked (view tables.now)) links.now) }
     ensures bytes { AllBytes (map (linked (view tables.now)) links.now) }
@@ -67,7 +67,7 @@ fn add_links(keys: &mut Counted<u32, MOST>, tables: &Tables, links: &[Link])
 }
 
 /// The keys of all that a state holds: of the running frame, of the saved ones, the newest first, and of the links.
-pub(crate) fn add_all(keys: &mut Counted<u32, MOST>, tables: &Tables, state: &State)
+pub(crate) fn add_all(keys: &mut Filled<u32, MOST>, tables: &Tables, state: &State)
     requires { keys.old ≡ [] }
     ensures keys { keys.new ≡ map key (held (view tables.now) state.now) }
     ensures bytes { AllBytes (held (view tables.now) state.now) }

@@ -10,7 +10,7 @@ ghost use Rattle.holdings.specs.Lines.{Put};
 mod keys;
 mod lines;
 
-use counted::Counted;
+use counted::Filled;
 use machine::State;
 use tables::Tables;
 
@@ -20,7 +20,7 @@ pub fn write_holdings(state: &State, tables: &Tables, out: &mut [u8]) -> usize
     ensures text { Put (holdings_text (view tables.now) (state_view state.now)) out.old result out.new }
     ensures within { result ≤ 7200 }
 {
-    let mut keys = Counted::new();
+    let mut keys = Filled::new();
     keys::add_all(&mut keys, tables, state);
     keys.sort();
     lines::write_lines(keys.as_slice(), out)

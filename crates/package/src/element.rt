@@ -5,12 +5,12 @@ ghost use Rattle.package.specs.declared.earlier.Earlier.{Earlier};
 ghost use Rattle.package.specs.Taking.{taken};
 
 use crate::Earlier;
-use counted::{Counted, Filler};
+use counted::Counted;
 use sections::{Refusal, Section};
 use text::Frame;
 
 /// An element that a frame stands for, where each number in the frame is declared.
-pub trait Element: Filler {
+pub trait Element: Copy {
     /// The kind of the frames that stand for such elements, and the section of that kind.
     const KIND: u8;
 
@@ -52,5 +52,44 @@ impl<'a, E: Element, const N: usize> Section<Earlier<'a>> for Counted<E, N> {
         }
         self.push(E::of(frame));
         Ok(())
+    }
+}
+
+#[cfg(test)]
+mod tests {
+    use super::*;
+    use sections::read_section;
+    use tables::Pair;
+    use text::Lines;
+
+    // The lines of a section go into an array of any `Copy` items, up to one of another section; an undeclared domain and a line too many are refused.
+    #[test]
+    fn pairs_in_an_array_without_a_filler(rt: HostRuntime) {
+        let earlier = Earlier {
+            domains: 2,
+            classes: 0,
+            fields: &[],
+            methods: &[],
+        };
+        let mut pairs: Counted<Pair, 1> = Counted::new(Pair { low: 9, high: 9 });
+        let mut lines = Lines::new(b"020001\n07\n");
+        assert!(rt; read_section(&mut lines, &mut pairs, &earlier).is_ok());
+        assert_eq!(rt; lines.number(), 1);
+        assert_eq!(rt; pairs.as_slice(), [Pair { low: 0, high: 1 }].as_slice());
+        for (text, refusal) in [
+            (b"020100\n", Refusal::TooMany),
+            (b"020002\n", Refusal::BadNumber),
+        ] {
+            let mut pairs: Counted<Pair, 1> = Counted::new(Pair { low: 9, high: 9 });
+            if refusal == Refusal::TooMany {
+                pairs.push(Pair { low: 0, high: 1 });
+            }
+            let mut lines = Lines::new(text);
+            let Err(refused) = read_section(&mut lines, &mut pairs, &earlier) else {
+                panic!(rt; "taken");
+            };
+            assert!(rt; refused.refusal == refusal);
+            assert_eq!(rt; refused.line, 1);
+        }
     }
 }

@@ -8,6 +8,7 @@ mod earlier;
 mod effect;
 mod element;
 mod field;
+mod filled;
 mod method;
 mod pair;
 mod reading;

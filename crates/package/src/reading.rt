@@ -6,7 +6,7 @@ ghost use Rattle.sections.specs.Refusals.{number_of};
 ghost use Rattle.tables.specs.View.{view};
 
 use crate::Earlier;
-use counted::Counted;
+use counted::Filled;
 use sections::{Refusal, Refused, next_frame, read_end, read_section};
 use tables::{Class, Effect, Field, Method, Pair, Tables};
 use text::Lines;
@@ -56,24 +56,24 @@ pub fn read(text: &[u8]) -> Result<Tables, Refused>
         fields: &[],
         methods: &[],
     };
-    let mut pairs: Counted<Pair, 128> = Counted::new();
+    let mut pairs: Filled<Pair, 128> = Filled::new();
     read_section(&mut lines, &mut pairs, &header)?;
-    let mut classes: Counted<Class, 127> = Counted::new();
+    let mut classes: Filled<Class, 127> = Filled::new();
     read_section(&mut lines, &mut classes, &header)?;
     let with_classes = Earlier {
         classes: classes.len(),
         ..header
     };
-    let mut fields: Counted<Field, 256> = Counted::new();
+    let mut fields: Filled<Field, 256> = Filled::new();
     read_section(&mut lines, &mut fields, &with_classes)?;
-    let mut methods: Counted<Method, 256> = Counted::new();
+    let mut methods: Filled<Method, 256> = Filled::new();
     read_section(&mut lines, &mut methods, &with_classes)?;
     let with_members = Earlier {
         fields: fields.as_slice(),
         methods: methods.as_slice(),
         ..with_classes
     };
-    let mut effects: Counted<Effect, 1024> = Counted::new();
+    let mut effects: Filled<Effect, 1024> = Filled::new();
     read_section(&mut lines, &mut effects, &with_members)?;
     read_end(&mut lines, 7)?;
     Ok(Tables::new(2, domains, pairs, classes, fields, methods, effects))

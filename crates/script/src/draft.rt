@@ -5,14 +5,14 @@ ghost use Rattle.tables.specs.View.{view};
 ghost use Rattle.script.specs.Start.{is_object, is_instance};
 ghost use Rattle.script.specs.Readings.{begun};
 
-use counted::Counted;
+use counted::Filled;
 use machine::{Loaded, Placed, State};
 
 /// The start and the steps, as they are read.
 #[derive(Clone, Copy)]
 pub struct Script {
     pub start: State,
-    pub steps: Counted<Placed, 1024>,
+    pub steps: Filled<Placed, 1024>,
 }
 
 /// A script with how many lines of links and of labels were read, repeated ones too: the start has each once.
@@ -31,7 +31,7 @@ impl Draft {
         Draft {
             script: Script {
                 start: State::new(0),
-                steps: Counted::new(),
+                steps: Filled::new(),
             },
             link_lines: 0,
             label_lines: 0,

@@ -6,18 +6,18 @@ ghost use Rattle.tables.specs.Contents.{Contents};
 ghost use Rattle.tables.specs.View.{view};
 
 use crate::elements::{Class, Effect, Field, Method, Pair};
-use counted::Counted;
+use counted::Filled;
 use std::marker::Model;
 
 #[derive(Clone, Copy)]
 pub struct Tables {
     generation: u8,
     domains: u8,
-    pairs: Counted<Pair, 128>,
-    classes: Counted<Class, 127>,
-    fields: Counted<Field, 256>,
-    methods: Counted<Method, 256>,
-    effects: Counted<Effect, 1024>,
+    pairs: Filled<Pair, 128>,
+    classes: Filled<Class, 127>,
+    fields: Filled<Field, 256>,
+    methods: Filled<Method, 256>,
+    effects: Filled<Effect, 1024>,
 }
 
 impl Model for Tables {
@@ -39,11 +39,11 @@ impl Tables {
     pub fn new(
         generation: u8,
         domains: u8,
-        pairs: Counted<Pair, 128>,
-        classes: Counted<Class, 127>,
-        fields: Counted<Field, 256>,
-        methods: Counted<Method, 256>,
-        effects: Counted<Effect, 1024>,
+        pairs: Filled<Pair, 128>,
+        classes: Filled<Class, 127>,
+        fields: Filled<Field, 256>,
+        methods: Filled<Method, 256>,
+        effects: Filled<Effect, 1024>,
     ) -> Self
         requires { Good (view (record { generation = generation; domains = domains; pairs = pairs; classes = classes; fields = fields; methods = methods; effects = effects })) }
         ensures { result ≡ record { generation = generation; domains = domains; pairs = pairs; classes = classes; fields = fields; methods = methods; effects = effects } }

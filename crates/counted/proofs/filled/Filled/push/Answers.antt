@@ -1,7 +1,7 @@
 -- The place that is written is the first of the free ones.
 use Rattle.std.proofs.Common.{rules}
 use Rattle.counted.proofs.Pushing.{pushed}
-use Rattle.counted.proofs.Counted.push.Goals as goal
+use Rattle.counted.proofs.filled.Filled.push.Goals as goal
 
 pub invariant_of-self : goal.invariant_of-self
 invariant_of-self g c =

@@ -19,6 +19,7 @@ impl Arguments {
     pub fn new(objects: &[u8]) -> Self
         requires { length objects.now ≤ 13 }
         ensures value { take result.count result.objects ≡ objects.now }
+        ensures count { result.count ≡ length objects.now }
         ensures zeros { result.objects ≡ objects.now ++ replicate (13 - length objects.now) 0 }
     {
         let mut places = [0; ARGUMENTS];
@@ -31,8 +32,22 @@ impl Arguments {
 
     pub fn objects(&self) -> &[u8]
         ensures value { result.now ≡ take self.now.count self.now.objects }
+        ensures count { length result.now ≡ self.now.count }
         ensures few { length result.now ≤ 13 }
     {
         &self.objects[..usize::from(self.count)]
+    }
+}
+
+#[cfg(test)]
+mod tests {
+    use super::*;
+
+    #[test]
+    fn two_arguments(rt: HostRuntime) {
+        let arguments = Arguments::new(&[7, 5]);
+        assert_eq!(rt; arguments.count, 2);
+        assert_eq!(rt; arguments.objects(), [7, 5].as_slice());
+        assert_eq!(rt; arguments.objects, [7, 5, 0, 0, 0, 0, 0, 0, 0, 0, 0, 0, 0]);
     }
 }

@@ -1,8 +1,8 @@
 -- The step that a frame stands for, and whether what it names is declared.
-use Rattle.std.specs.Prelude.{ℕ, Bool, true, ◌&&◌, ◌==◌, ◌≤◌, List, [], ◌∷◌, length, slice_index, Option, Some, None, if◌then◌else◌}
+use Rattle.std.specs.Prelude.{ℕ, Bool, true, ◌&&◌, ◌==◌, ◌≤◌, List, [], ◌∷◌, length, slice_index, slice_index_or, Option, Some, None, if◌then◌else◌, ⊤}
 use Rattle.std.proofs.Math.Decide.{dec_le}
 use Rattle.std.proofs.Common.{le_trans, lit≤}
-use Rattle.machine.specs.Step.{arguments_of}
+use Rattle.machine.specs.Step.{arguments_of, no_step}
 use Rattle.std.specs.List.{list_all}
 use Rattle.meaning.specs.Tables.{Package, params_of}
 use Rattle.meaning.specs.Reading.{is_type, is_field, is_method_of}
@@ -10,6 +10,7 @@ use Rattle.runs.specs.Script.{is_reference}
 use Rattle.text.specs.declared.frame.Frame.{Frame}
 use Rattle.machine.specs.declared.arguments.Arguments.{Arguments}
 use Rattle.machine.specs.declared.step.Step.{Step}
+use Rattle.machine.specs.declared.step.Placed.{Placed}
 use Rattle.machine.specs.declared.step.Step.TheVariants.{Widen, New, CheckCast, GetStatic, PutStatic, GetField, PutField, InvokeStatic, InvokeMethod, Return}
 
 abbrev pub byte : Frame → ℕ → ℕ
@@ -64,6 +65,23 @@ step_in f = step_by (byte f 0) (byte f 1) (byte f 2) (byte f 3) (byte f 4) (byte
 -- the arguments are as many as the method takes, and each is a reference
 abbrev pub are_for : Package → ℕ → Arguments → Bool
 are_for P m arguments = (length (arguments_of arguments) == length (params_of P m)) && list_all is_reference (arguments_of arguments)
+
+-- a call has at most six arguments, as many as a method may take
+abbrev pub HasFewArguments : Step → Type 0
+HasFewArguments (Widen r b) = ⊤
+HasFewArguments (New r b) = ⊤
+HasFewArguments (CheckCast r b) = ⊤
+HasFewArguments (GetStatic f q) = ⊤
+HasFewArguments (PutStatic f q) = ⊤
+HasFewArguments (GetField f p q) = ⊤
+HasFewArguments (PutField f p q) = ⊤
+HasFewArguments (InvokeStatic n rs) = rs.count ≤ 6
+HasFewArguments (InvokeMethod n v r rs) = rs.count ≤ 6
+HasFewArguments (Return r) = ⊤
+
+-- each call of these steps
+abbrev pub HaveFewArguments : List Placed → Type 0
+HaveFewArguments steps = (place : ℕ) → HasFewArguments (slice_index_or steps place no_step).step
 
 -- the numbers that a step names are declared, and each of its references is one. Whether there are such objects is asked when it is taken
 abbrev pub is_named : Package → Step → Bool

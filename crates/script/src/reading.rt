@@ -1,7 +1,8 @@
 //! A whole run text, from its first line to its last.
 
-ghost use Rattle.std.specs.Prelude.{◌≡◌, Ok, Err, OnErr, MatchResult};
+ghost use Rattle.std.specs.Prelude.{◌≡◌, Ok, Err, OnOk, OnErr, MatchResult};
 ghost use Rattle.tables.specs.View.{view};
+ghost use Rattle.script.specs.Steps.{HaveFewArguments};
 ghost use Rattle.script.specs.Readings.{entry, begun, starting, whole, read_by, IsScript, IsRefused};
 
 use crate::draft::Draft;
@@ -94,6 +95,7 @@ fn read_sections(text: &[u8], loaded: &Loaded, draft: &mut Draft) -> Result<(), 
 pub fn read(text: &[u8], loaded: &Loaded, draft: &mut Draft) -> Result<(), Refused>
     ensures meaning { MatchResult result (λ _. IsScript (view loaded.now) text.now draft.new.script) (IsRefused (view loaded.now) text.now) }
     ensures exact { MatchResult result (λ _. read_by (view loaded.now) text.now ≡ Ok draft.new) (λ refused. read_by (view loaded.now) text.now ≡ Err refused) }
+    ensures few { OnOk result (HaveFewArguments draft.new.script.steps) }
     ensures refused { OnErr result (draft.new ≡ begun 0) }
 {
     // Its tables say that the package is good.

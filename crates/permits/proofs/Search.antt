@@ -10,9 +10,21 @@ use Rattle.meaning.specs.Tables as M
 use Rattle.meaning.specs.Tables.{Package}
 use Rattle.meaning.proofs.Bools.{fails-false, passes-true}
 use Rattle.tables.specs.declared.elements.Effect.{Effect}
-use Rattle.tables.specs.View.{effect_view}
+use Rattle.tables.specs.declared.elements.Operation.{Operation}
+use Rattle.tables.specs.declared.elements.Operation.TheVariants.{New, CheckCast, GetStatic, PutStatic, GetField, PutField, InvokeStatic, InvokeMethod}
+use Rattle.tables.specs.View.{effect_view, operation_number}
 use Rattle.permits.specs.Chains.{group_of, no_effect, newest_of}
 use Rattle.permits.specs.Wanted.{passes}
+
+pub operation-small : (o : Operation) → operation_number o < 8
+operation-small New = omega arith
+operation-small CheckCast = omega arith
+operation-small GetStatic = omega arith
+operation-small PutStatic = omega arith
+operation-small GetField = omega arith
+operation-small PutField = omega arith
+operation-small InvokeStatic = omega arith
+operation-small InvokeMethod = omega arith
 
 -- ---- a search over effects as the tables hold them
 
